@@ -34,7 +34,7 @@ read-rest c =
     ap (framing headerWidth bodyLimit) (sym (take-all (length s - at) (drop at s) (omega (arith, length-drop at s)))) ∙ sym (c .read .ensures)
 
 loop-holds : tie.Need-loop-holds Inv-loop μ-loop
-loop-holds c = (omega arith, omega arith, rw (zero-add, zero-add))
+loop-holds c = (omega arith, omega arith, simp zero-add)
 
 frame-at :
     (c : tie.After-struct-known Inv-loop μ-loop) →
