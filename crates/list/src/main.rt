@@ -1,0 +1,128 @@
+// Document 01's listing program: offset, type and body length of each frame on standard input, up to the end or to a refusal 1 to 3.
+ghost use Prim.Native.Nat.{_≤_};
+ghost use lib.ListN.{length};
+use frame::Frame;
+use frame::Framed;
+
+// The window that slides over the input holds the longest frame several times, so that reads are few.
+const WINDOW: usize = 4 * Frame::LIMIT;
+
+// Lines are gathered and written together. A line is shorter than the margin.
+const GATHERED: usize = 65536;
+
+const MARGIN: usize = 64;
+
+// Where the listing is: bytes of the window that are listed, offset and frames so far, bytes gathered, and the number of the
+// refusal at that place, 0 where there is none.
+struct Place {
+    from: usize,
+    offset: u64,
+    frames: u64,
+    gathered: usize,
+    refused: u32,
+}
+
+// A line of three numbers behind what is gathered.
+fn line(out: &mut [u8], at: usize, offset: u64, kind: u32, len: usize) -> usize {
+    let a = text::decimal(out, at, offset);
+    let b = text::word(out, a, b" ");
+    let c = text::decimal(out, b, kind as u64);
+    let d = text::word(out, c, b" ");
+    let e = text::decimal(out, d, len as u64);
+    text::word(out, e, b"\n")
+}
+
+// The last line: the offset, how the listing ends, and the frames or the refusal's number.
+fn last_line(out: &mut [u8], at: usize, offset: u64, how: &[u8], number: u64) -> usize {
+    let a = text::decimal(out, at, offset);
+    let b = text::word(out, a, how);
+    let c = text::decimal(out, b, number);
+    text::word(out, c, b"\n")
+}
+
+// Lists the frames of the window's bytes, from a place on.
+fn list_window(bytes: &[u8], out: &mut [u8], start: Place) -> Place
+    ensures { λ r. ⌜ r .from ≤ length (now (bytes .entry)) ⌝ }
+{
+    let mut from: usize = 0;
+    let mut offset = start.offset;
+    let mut frames = start.frames;
+    let mut gathered = start.gathered;
+    while from < bytes.len() {
+        match frame::read(&bytes[from..]) {
+            Framed::Whole(f) => {
+                gathered = line(out, gathered, offset, f.kind, f.len);
+                gathered = window::flush(out, gathered, MARGIN);
+                from += f.total;
+                offset = std::num::wrapping_add_u64(offset, f.total as u64);
+                frames = std::num::wrapping_add_u64(frames, 1);
+            }
+            Framed::Refused(why) => {
+                let refused = frame::number(why);
+                return Place {
+                    from,
+                    offset,
+                    frames,
+                    gathered,
+                    refused,
+                };
+            }
+        }
+    }
+    Place {
+        from,
+        offset,
+        frames,
+        gathered,
+        refused: 0,
+    }
+}
+
+// The last line, and all that is gathered.
+fn finish(out: &mut [u8], place: Place) {
+    let all = GATHERED + 1;
+    if place.refused == 0 {
+        let held = last_line(out, place.gathered, place.offset, b" end ", place.frames);
+        window::flush(out, held, all);
+        return;
+    }
+    let held = last_line(
+        out,
+        place.gathered,
+        place.offset,
+        b" refused ",
+        place.refused as u64,
+    );
+    window::flush(out, held, all);
+}
+
+// Lists standard input. A refusal 1 waits for more bytes while there are any; the turns are more than any input takes.
+fn list(bytes: &mut [u8], out: &mut [u8]) {
+    let mut place = Place {
+        from: 0,
+        offset: 0,
+        frames: 0,
+        gathered: 0,
+        refused: 0,
+    };
+    let mut held: usize = 0;
+    let mut turns = u64::MAX;
+    while 0 < turns {
+        turns -= 1;
+        let now_held = window::fill(bytes, held);
+        place = list_window(&bytes[0..now_held], out, place);
+        if (now_held == held) | (1 < place.refused) {
+            finish(out, place);
+            return;
+        }
+        let from = place.from;
+        held = window::slide(bytes, from, now_held);
+    }
+    finish(out, place);
+}
+
+fn main() {
+    let mut bytes = [0u8; WINDOW];
+    let mut out = [0u8; GATHERED];
+    list(&mut bytes, &mut out);
+}
