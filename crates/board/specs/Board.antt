@@ -1,0 +1,14 @@
+-- What the C interface answers: 0 is the plain answer, 1 to 99 are document 01's refusal numbers.
+-- Assumes nothing.
+use Prim.Native.Nat.{ℕ}
+use Rattle.wire.specs.Answer.{Answer, accepted, refused}
+use Rattle.frame.specs.declared.Frame.{Frame}
+use Rattle.board.specs.declared.FrameAnswer.{FrameAnswer}
+
+abbrev pub plain : ℕ
+plain = 0
+
+-- a frame's type and lengths; "a refusal returns its number"
+abbrev pub frameAnswer : Answer Frame → FrameAnswer
+frameAnswer (accepted f) = record { answer = plain; kind = f .kind; len = f .len; total = f .total }
+frameAnswer (refused n vs) = record { answer = n; kind = 0; len = 0; total = 0 }
