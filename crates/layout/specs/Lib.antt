@@ -1,0 +1,4 @@
+pub mod Kind
+pub mod Layout
+pub mod Group
+pub mod Paper

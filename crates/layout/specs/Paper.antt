@@ -1,0 +1,30 @@
+-- The code's groups and verdicts in this paper's terms.
+-- Assumes nothing.
+use Prim.Native.Nat.{ℕ}
+use mathlib.Core.List.{[]}
+use Rattle.wire.specs.Answer.{Answer, accepted, refused}
+use Rattle.wire.specs.Refusal.{notItsLayout, outOfRange}
+use Rattle.layout.specs.Layout.{Group, streams, switches, indexEntries, snapshotEntries}
+use Rattle.layout.specs.declared.group.Groups.{Groups}
+use Rattle.layout.specs.declared.group.Groups.the-variants.{Streams, Switches, IndexEntries, SnapshotEntries}
+use Rattle.layout.specs.declared.group.Refusal.{Refusal}
+use Rattle.layout.specs.declared.group.Refusal.the-variants.{NotItsLayout, OutOfRange}
+use Rattle.layout.specs.declared.group.Verdict.{Verdict}
+use Rattle.layout.specs.declared.group.Verdict.the-variants.{Accepted, Refused}
+
+-- the group that the code means
+abbrev pub meant : Groups → Group
+meant Streams = streams
+meant Switches = switches
+meant IndexEntries = indexEntries
+meant SnapshotEntries = snapshotEntries
+
+-- the number of a refusal
+abbrev pub refusal : Refusal → ℕ
+refusal NotItsLayout = notItsLayout
+refusal OutOfRange = outOfRange
+
+-- the verdict
+abbrev pub paper : Verdict → Answer Unit
+paper Accepted = accepted tt
+paper (Refused x) = refused (refusal x) []

@@ -1,0 +1,112 @@
+-- The code's answers in this paper's terms: for each case of an enum, the paper's number and values.
+-- Assumes nothing.
+use Prim.Native.Nat.{ℕ}
+use mathlib.Core.List.{List, [], _∷_}
+use lib.IntN.{ℤ, pos}
+use Rattle.wire.specs.Answer.{Answer, accepted, refused}
+use Rattle.layout.specs.Kind.{Text, stream, security, source, phase, financialStatus, newsId, rejectText}
+use Rattle.layout.specs.Layout.{heartbeat, channelHeartbeat, resend, statistics, securityStatus, snapshot, index, volumeIndex, order, trade}
+use Rattle.layout.specs.Paper.{refusal}
+use Rattle.record.specs.Asked.{Told, Asked, found, noSuchEntry}
+use Rattle.record.specs.Entry.{Says, level, levelWithoutPrice, price, size, both, noLimit, unknown, Entry, At, Stepped}
+use Rattle.record.specs.Record as record-of
+use Rattle.record.specs.declared.Record.{Record}
+use Rattle.record.specs.declared.Record.the-variants.{Heartbeat, ChannelHeartbeat, Resend, Statistics, SecurityStatus, Snapshot, Index, VolumeIndex, Order, Trade, Unknown}
+use Rattle.record.specs.declared.snapshot.Common.{Common}
+use Rattle.record.specs.declared.texts.Text as code-text
+use Rattle.record.specs.declared.Answer as code-answer
+use Rattle.record.specs.declared.Reading as code-reading
+use Rattle.record.specs.declared.Group as code-group
+use Rattle.record.specs.declared.AskedGroup as code-asked
+use Rattle.record.specs.declared.entry.Says as code-says
+use Rattle.record.specs.declared.entry.Entry as code-entry
+use Rattle.record.specs.declared.entry.AskedEntry as asked-entry
+use Rattle.record.specs.declared.entry.AskedQuantity as asked-quantity
+use Rattle.record.specs.declared.cursor.Cursor as code-cursor
+use Rattle.record.specs.declared.cursor.Step as code-step
+
+-- ---- records
+
+-- the common part, and what follows it
+abbrev pub commonValues : Common → List ℤ → List ℤ
+commonValues c rest =
+    c .time ∷ pos (c .channel) ∷ c .«previous_close» ∷ c .«trade_count» ∷ c .volume ∷ c .amount ∷ rest
+
+abbrev pub paperRecord : Record → record-of.Reading
+paperRecord Heartbeat = record-of.known heartbeat []
+paperRecord (ChannelHeartbeat r) =
+    record-of.known channelHeartbeat (pos (r .channel) ∷ r .«last_number» ∷ pos (r .end) ∷ [])
+paperRecord (Resend r) =
+    record-of.known resend (pos (r .«resend_type») ∷ pos (r .channel) ∷ r .«first_number» ∷ r .«last_number» ∷ pos (r .status) ∷ [])
+paperRecord (Statistics r) = record-of.known statistics (r .time ∷ pos (r .channel) ∷ pos (r .count) ∷ [])
+paperRecord (SecurityStatus r) = record-of.known securityStatus (r .time ∷ pos (r .channel) ∷ pos (r .count) ∷ [])
+paperRecord (Snapshot r) = record-of.known snapshot (commonValues (r .common) (pos (r .count) ∷ []))
+paperRecord (Index r) = record-of.known index (commonValues (r .common) (pos (r .count) ∷ []))
+paperRecord (VolumeIndex r) = record-of.known volumeIndex (commonValues (r .common) (pos (r .«stock_number») ∷ []))
+paperRecord (Order r) =
+    record-of.known order
+    (pos (r .channel) ∷ r .number ∷ r .«order_price» ∷ r .quantity ∷ pos (r .side) ∷ r .time ∷ pos (r .«order_type») ∷ [])
+paperRecord (Trade r) =
+    record-of.known trade
+    (pos (r .channel) ∷ r .number ∷ r .«bid_number» ∷ r .«offer_number» ∷ r .«trade_price» ∷ r .quantity ∷ pos (r .execution) ∷ r .time ∷ [])
+paperRecord (Unknown t) = record-of.unknown t
+
+abbrev pub paperAnswer : code-answer.Answer → Answer record-of.Reading
+paperAnswer (code-answer.the-variants.Read r) = accepted (paperRecord r)
+paperAnswer (code-answer.the-variants.Refused x) = refused (refusal x) []
+
+abbrev pub paper : code-reading.Reading → Told record-of.Reading
+paper r = record { answer = paperAnswer (r .answer); texts = r .texts .bytes; used = r .texts .length }
+
+-- the text that the code means
+abbrev pub meant : code-text.Text → Text
+meant code-text.the-variants.Stream = stream
+meant code-text.the-variants.Security = security
+meant code-text.the-variants.Source = source
+meant code-text.the-variants.Phase = phase
+meant code-text.the-variants.FinancialStatus = financialStatus
+meant code-text.the-variants.NewsId = newsId
+meant code-text.the-variants.RejectText = rejectText
+
+-- ---- groups
+
+abbrev pub paperGroup : code-group.Group → Answer (Asked (List ℤ))
+paperGroup (code-group.the-variants.Stream g) = accepted (found (pos (g .«stock_number») ∷ []))
+paperGroup (code-group.the-variants.Switch g) = accepted (found (pos (g .«switch_type») ∷ pos (g .«yes_no») ∷ []))
+paperGroup code-group.the-variants.NoSuchEntry = accepted noSuchEntry
+paperGroup (code-group.the-variants.Refused x) = refused (refusal x) []
+
+abbrev pub paperAsked : code-asked.AskedGroup → Told (Asked (List ℤ))
+paperAsked r = record { answer = paperGroup (r .group); texts = r .texts .bytes; used = r .texts .length }
+
+-- ---- entries
+
+abbrev pub paperSays : code-says.Says → Says
+paperSays (code-says.the-variants.Level p z l o n) = level p z (pos l) o (pos n)
+paperSays (code-says.the-variants.LevelWithoutPrice z l o n) = levelWithoutPrice z (pos l) o (pos n)
+paperSays (code-says.the-variants.Price p) = price p
+paperSays (code-says.the-variants.Size z) = size z
+paperSays (code-says.the-variants.Both p z) = both p z
+paperSays code-says.the-variants.NoLimit = noLimit
+paperSays code-says.the-variants.Unknown = unknown
+
+abbrev pub paperEntry : code-entry.Entry → Entry
+paperEntry e = record { characters = e .characters; says = paperSays (e .says) }
+
+abbrev pub paperAskedEntry : asked-entry.AskedEntry → Answer (Asked Entry)
+paperAskedEntry (asked-entry.the-variants.Found e) = accepted (found (paperEntry e))
+paperAskedEntry asked-entry.the-variants.NoSuchEntry = accepted noSuchEntry
+paperAskedEntry (asked-entry.the-variants.Refused x) = refused (refusal x) []
+
+abbrev pub paperQuantity : asked-quantity.AskedQuantity → Answer (Asked ℤ)
+paperQuantity (asked-quantity.the-variants.Found z) = accepted (found z)
+paperQuantity asked-quantity.the-variants.NoSuchEntry = accepted noSuchEntry
+paperQuantity (asked-quantity.the-variants.Refused x) = refused (refusal x) []
+
+abbrev pub paperCursor : code-cursor.Cursor → At
+paperCursor c = record { place = c .place; left = c .left }
+
+abbrev pub paperStep : code-step.Step → Answer (Asked Stepped)
+paperStep (code-step.the-variants.Found e c) = accepted (found (record { entry = paperEntry e; onward = paperCursor c }))
+paperStep code-step.the-variants.NoSuchEntry = accepted noSuchEntry
+paperStep (code-step.the-variants.Refused x) = refused (refusal x) []

@@ -1,0 +1,99 @@
+-- What a type and a body read as: document 01's records, texts and groups. The promises of this crate cite these definitions.
+-- Assumes nothing.
+use Prim.Native.Nat.{ℕ, _+_}
+use mathlib.Core.Bool.{Bool, true, false, cond}
+use mathlib.Core.List.{List, []}
+use lib.Dec.{eqb}
+use lib.IntN.{ℤ}
+use Rattle.wire.specs.Answer.{Answer, accepted, refused}
+use Rattle.wire.specs.Bytes.{part}
+use Rattle.layout.specs.Kind.{Text}
+use Rattle.layout.specs.Layout.{Message, fields, Group, Behind, nothing, groups, entries, behind, Listed, listed, unlisted, named, values, texts, textIn}
+use Rattle.layout.specs.Group.{start, count, counted, place, group, judged}
+use Rattle.record.specs.Asked.{Told, told, onceAccepted, Asked, found, noSuchEntry, below, judging}
+
+-- a listed type with the numbers of its fixed fields, in the layout's order; or unknown, with its type
+pub data Reading : Type 0 where
+  known : Message → List ℤ → Reading
+  unknown : ℕ → Reading
+
+-- the body of a listed type
+unfoldable pub readAs : Message → List ℕ → Told Reading
+readAs m s = onceAccepted (judged m s) (known m (values (fields m) s 0)) (texts (fields m) s 0)
+
+-- "An unlisted type is not refused: it is answered as unknown, with type and body"
+abbrev pub readListed : Listed → ℕ → List ℕ → Told Reading
+readListed (listed m) type s = readAs m s
+readListed unlisted type s = told (accepted (unknown type)) []
+
+-- "The type number alone chooses the layout"
+unfoldable pub reading : ℕ → List ℕ → Told Reading
+reading type s = readListed (named type) type s
+
+-- whether a type is listed
+abbrev pub isListed : Listed → Bool
+isListed (listed m) = true
+isListed unlisted = false
+
+-- ---- groups
+
+-- group i: the numbers of its fields; its texts go with the answer
+abbrev pub groupIn : Behind → ℕ → List ℕ → ℕ → Asked (List ℤ)
+groupIn nothing end s i = noSuchEntry
+groupIn (groups g) end s i = below i (counted (groups g) end s) (values (g .fields) s (place g s end i))
+groupIn (entries e) end s i = noSuchEntry
+
+abbrev pub groupTexts : Behind → ℕ → List ℕ → ℕ → Asked (List ℤ) → List ℕ
+groupTexts nothing end s i a = []
+groupTexts (groups g) end s i (found vs) = texts (g .fields) s (place g s end i)
+groupTexts (groups g) end s i noSuchEntry = []
+groupTexts (entries e) end s i a = []
+
+-- "asked for by position from 0 (a type without them, or an unknown type, has count 0)", after 4 and 5
+unfoldable pub groupAs : Message → List ℕ → ℕ → Told (Asked (List ℤ))
+groupAs m s i =
+    onceAccepted (judged m s) (groupIn (behind m) (start m) s i)
+    (groupTexts (behind m) (start m) s i (groupIn (behind m) (start m) s i))
+
+abbrev pub groupListed : Listed → List ℕ → ℕ → Told (Asked (List ℤ))
+groupListed (listed m) s i = groupAs m s i
+groupListed unlisted s i = told (accepted noSuchEntry) []
+
+unfoldable pub groupAsked : ℕ → List ℕ → ℕ → Told (Asked (List ℤ))
+groupAsked type s i = groupListed (named type) s i
+
+-- the groups of an accepted body as a part of it, without the tail
+abbrev pub partAccepted : Answer Unit → Message → List ℕ → List ℕ
+partAccepted (accepted u) m s = part (start m) (place (group m) s (start m) (count m s)) s
+partAccepted (refused n vs) m s = []
+
+unfoldable pub groupsAs : Message → List ℕ → List ℕ
+groupsAs m s = partAccepted (judged m s) m s
+
+abbrev pub groupsListed : Listed → List ℕ → List ℕ
+groupsListed (listed m) s = groupsAs m s
+groupsListed unlisted s = []
+
+unfoldable pub groupsPart : ℕ → List ℕ → List ℕ
+groupsPart type s = groupsListed (named type) s
+
+-- ---- a text by its name, out of the texts of a record, and out of those of a group
+
+abbrev pub textListed : Listed → Text → List ℕ → List ℕ
+textListed (listed m) t ts = textIn t (fields m) ts
+textListed unlisted t ts = []
+
+unfoldable pub textNamed : ℕ → Text → List ℕ → List ℕ
+textNamed type t ts = textListed (named type) t ts
+
+abbrev pub groupText : Behind → Text → List ℕ → List ℕ
+groupText nothing t ts = []
+groupText (groups g) t ts = textIn t (g .fields) ts
+groupText (entries e) t ts = []
+
+abbrev pub groupTextListed : Listed → Text → List ℕ → List ℕ
+groupTextListed (listed m) t ts = groupText (behind m) t ts
+groupTextListed unlisted t ts = []
+
+unfoldable pub groupTextNamed : ℕ → Text → List ℕ → List ℕ
+groupTextNamed type t ts = groupTextListed (named type) t ts

@@ -1,0 +1,7 @@
+// 309011, index.
+use crate::Common;
+
+pub struct Index {
+    pub common: Common,
+    pub count: u32,
+}
