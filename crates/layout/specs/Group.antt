@@ -56,6 +56,11 @@ verdict there inRange =
 unfoldable pub judgedFrom : Group → List ℕ → ℕ → ℕ → Answer Unit
 judgedFrom g s at k = verdict (fit g s at k) (groupRanges g s at k)
 
+-- a verdict on groups, and the fields in front of them: 5 where one of these is out of range
+abbrev pub also : Bool → Answer Unit → Answer Unit
+also good (accepted u) = guard (not good) (refused outOfRange []) (accepted u)
+also good (refused n vs) = refused n vs
+
 -- where i groups end, if the bytes have them; else the place from which they were looked for
 unfoldable pub placeFrom : Group → List ℕ → ℕ → ℕ → ℕ
 placeFrom g s at i = cond (fit g s at i) (place g s at i) at

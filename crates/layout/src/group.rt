@@ -1,4 +1,16 @@
-// Groups behind a count.
+// Groups behind a count: whether bytes have them, whether they are in range, and where each stands.
+ghost use mathlib.Core.Path.{_≡_};
+ghost use mathlib.Core.Bool.{true};
+ghost use Prim.Native.Nat.{_+_, _*_, _<_, _≤_};
+ghost use lib.ListN.{length};
+ghost use Rattle.layout.specs.Layout.{size, ranges};
+ghost use Rattle.layout.specs.Group as of;
+ghost use Rattle.layout.specs.Group.{fit, quantities, groupRanges, judgedFrom, placeFrom};
+ghost use Rattle.layout.specs.Paper.{meant, paper};
+use crate::range::entry_price;
+use crate::range::natural;
+use crate::range::quantity;
+use crate::range::yes_no;
 
 // The groups of a statistics body, of a security status, of an index, and of a snapshot.
 pub enum Groups {
@@ -17,4 +29,173 @@ pub enum Refusal {
 pub enum Verdict {
     Accepted,
     Refused(Refusal),
+}
+
+impl Verdict {
+    // The verdict on a body: that on its groups, and 5 where a field in front of them is out of range.
+    pub fn also(self, good: bool) -> Verdict
+        ensures { λ r. ⌜ paper r ≡ of.also good (paper self) ⌝ }
+    {
+        match self {
+            Verdict::Accepted => {
+                if good {
+                    Verdict::Accepted
+                } else {
+                    Verdict::Refused(Refusal::OutOfRange)
+                }
+            }
+            Verdict::Refused(x) => Verdict::Refused(x),
+        }
+    }
+}
+
+// The bytes of a group's fields.
+fn width(g: Groups) -> usize
+    ensures { λ r. ⌜ (r ≡ size (meant g .fields)) × ((4 ≤ r) × (r ≤ 32)) ⌝ }
+{
+    match g {
+        Groups::Streams => 15,
+        Groups::Switches => 4,
+        Groups::IndexEntries => 10,
+        Groups::SnapshotEntries => 32,
+    }
+}
+
+// How many quantities a group shows, by its fields.
+fn shown(g: Groups, e: &[u8]) -> usize
+    ensures { λ r. ⌜ (r ≡ of.shown (meant g) (now (e .entry)) 0) × (r < 4294967296) ⌝ }
+{
+    match g {
+        Groups::Streams => 0,
+        Groups::Switches => 0,
+        Groups::IndexEntries => 0,
+        Groups::SnapshotEntries => wire::be4(e, 28) as usize,
+    }
+}
+
+// Whether the fields of a group are in range.
+fn fields_in(g: Groups, e: &[u8]) -> bool
+    ensures { λ r. ⌜ r ≡ ranges (meant g .fields) (now (e .entry)) 0 ⌝ }
+{
+    match g {
+        Groups::Streams => true,
+        Groups::Switches => yes_no(wire::be2(e, 2)),
+        Groups::IndexEntries => entry_price(wire::be8(e, 2)),
+        Groups::SnapshotEntries => {
+            entry_price(wire::be8(e, 2)) & (quantity(wire::be8(e, 10)) & natural(wire::be8(e, 20)))
+        }
+    }
+}
+
+// Whether n quantities that are there are in range.
+fn quantities_in(n: usize, s: &[u8], at: usize) -> bool
+    requires { ⌜ at + 8 * n ≤ length (now s) ⌝ }
+    ensures { λ r. ⌜ r ≡ quantities n (now (s .entry)) at ⌝ }
+{
+    let mut p = at;
+    let mut left = n;
+    while 0 < left {
+        let q = p + 8;
+        let e = &s[p..q];
+        if quantity(wire::be8(e, 0)) {
+            p = q;
+            left -= 1;
+        } else {
+            return false;
+        }
+    }
+    true
+}
+
+// Whether the bytes have k groups from a place on.
+fn room(g: Groups, s: &[u8], at: usize, k: u32) -> bool
+    ensures { λ r. ⌜ r ≡ fit (meant g) (now (s .entry)) at k ⌝ }
+{
+    let n = s.len();
+    let w = width(g);
+    let mut p = at;
+    let mut left = k;
+    while 0 < left {
+        if n < p {
+            return false;
+        }
+        if n - p < w {
+            return false;
+        }
+        let q = p + w;
+        let e = &s[p..q];
+        let m = shown(g, e);
+        if n - q < 8 * m {
+            return false;
+        }
+        p = q + 8 * m;
+        left -= 1;
+    }
+    true
+}
+
+// Whether k groups that are there are in range.
+fn groups_in(g: Groups, s: &[u8], at: usize, k: u32) -> bool
+    requires { ⌜ fit (meant g) (now s) at k ≡ true ⌝ }
+    ensures { λ r. ⌜ r ≡ groupRanges (meant g) (now (s .entry)) at k ⌝ }
+{
+    let w = width(g);
+    let mut p = at;
+    let mut left = k;
+    while 0 < left {
+        let q = p + w;
+        let e = &s[p..q];
+        let m = shown(g, e);
+        if fields_in(g, e) & quantities_in(m, s, q) {
+            p = q + 8 * m;
+            left -= 1;
+        } else {
+            return false;
+        }
+    }
+    true
+}
+
+// Where i groups that are there end.
+fn behind(g: Groups, s: &[u8], at: usize, i: u32) -> usize
+    requires { ⌜ fit (meant g) (now s) at i ≡ true ⌝ }
+    ensures { λ r. ⌜ r ≡ of.place (meant g) (now (s .entry)) at i ⌝ }
+{
+    let w = width(g);
+    let mut p = at;
+    let mut left = i;
+    while 0 < left {
+        let q = p + w;
+        let e = &s[p..q];
+        let m = shown(g, e);
+        p = q + 8 * m;
+        left -= 1;
+    }
+    p
+}
+
+// Judges k groups from a place on: 4 where the bytes lack some, else 5 where a field or a shown quantity is out of range.
+pub fn judge(g: Groups, s: &[u8], at: usize, k: u32) -> Verdict
+    ensures { λ r. ⌜ paper r ≡ judgedFrom (meant g) (now (s .entry)) at k ⌝ }
+{
+    if room(g, s, at, k) {
+        if groups_in(g, s, at, k) {
+            Verdict::Accepted
+        } else {
+            Verdict::Refused(Refusal::OutOfRange)
+        }
+    } else {
+        Verdict::Refused(Refusal::NotItsLayout)
+    }
+}
+
+// Where group i stands, counted from a place on; that place itself where the bytes lack one before it.
+pub fn place(g: Groups, s: &[u8], at: usize, i: u32) -> usize
+    ensures { λ r. ⌜ r ≡ placeFrom (meant g) (now (s .entry)) at i ⌝ }
+{
+    if room(g, s, at, i) {
+        behind(g, s, at, i)
+    } else {
+        at
+    }
 }

@@ -5,6 +5,8 @@ mod range;
 pub use group::Groups;
 pub use group::Refusal;
 pub use group::Verdict;
+pub use group::judge;
+pub use group::place;
 pub use range::amount;
 pub use range::entry_price;
 pub use range::execution;

@@ -4,12 +4,19 @@ ghost use Rattle.layout.specs.Kind as kind;
 ghost use Rattle.layout.specs.Kind.{ranged};
 
 const HIGHEST: u64 = 9_223_372_036_854_775_807;
+
 const HIGHEST_PRICE: u64 = 9_999_999_999_999;
+
 const LOWEST_PRICE: u64 = 18_446_734_073_709_551_617;
+
 const HIGHEST_ENTRY_PRICE: u64 = 9_999_999_999_999;
+
 const LOWEST_ENTRY_PRICE: u64 = 18_446_734_073_709_551_617;
+
 const HIGHEST_QUANTITY: u64 = 999_999_999_999_999;
+
 const HIGHEST_AMOUNT: u64 = 999_999_999_999_999_999;
+
 const TIME_LIMIT: u64 = 100_000_000_000_000_000;
 
 // A record number.
@@ -64,7 +71,8 @@ pub fn time(v: u64) -> bool
     let minute = clock / 100_000 % 100;
     let second = clock / 1_000 % 100;
     ((1 <= month) & (month <= 12))
-        & (((1 <= day) & (day <= 31)) & ((hour <= 23) & ((minute <= 59) & ((second <= 60) & (v < TIME_LIMIT)))))
+        & (((1 <= day) & (day <= 31))
+            & ((hour <= 23) & ((minute <= 59) & ((second <= 60) & (v < TIME_LIMIT)))))
 }
 
 pub fn yes_no(v: u16) -> bool

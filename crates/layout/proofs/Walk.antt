@@ -1,0 +1,213 @@
+-- Groups one after the other: one step of each definition, at the code's k and k - 1; a group in the part that holds its fields; how a walk is judged.
+-- Assumes nothing.
+use Prim.Native.Nat.{ℕ, zero, suc, _+_, _-_, _*_, _<_, _≤_, zero-le}
+use mathlib.Core.Path.{_≡_, refl, ap, sym, _∙_}
+use mathlib.Core.Bool.{Bool, true, false, not, _&&_}
+use mathlib.Core.List.{List, [], _∷_}
+use native.Mathlib.Omega.{arith}
+use borrow.Author.Tests.{le-leb, lt-leb, leb-true}
+use lib.Dec.{leb}
+use lib.ListN.{length, take, drop}
+use Rattle.wire.specs.Answer.{Answer, accepted, refused, guard}
+use Rattle.wire.specs.Bytes.{beAt, part}
+use Rattle.wire.specs.Refusal.{notItsLayout}
+use Rattle.wire.proofs.Be.{beAt-part, beAt-here}
+use Rattle.layout.specs.Kind.{Kind, quantity, width, ranged}
+use Rattle.layout.specs.Layout.{Message, fields, Group, size, ranges}
+use Rattle.layout.specs.Group.{shown, shownPlace, next, place, fit, quantities, groupRanges, verdict, judgedFrom, placeFrom, also, noGroup, group, start, count, judged}
+
+-- ---- truth values
+
+-- what holds where both of two do, and what does not
+pub and-both : (a b : Bool) → a && b ≡ true → (a ≡ true) × (b ≡ true)
+and-both true b e = (refl, e)
+and-both false b e = let z : _≡_ {A = ℕ} 0 1 = cc in absurd (omega arith)
+
+pred-is : (k : ℕ) → suc k - 1 ≡ k
+pred-is k = omega arith
+
+-- ---- quantities
+
+pub quantities-step : (n : ℕ) (s : List ℕ) (at : ℕ) → 0 < n → quantities n s at ≡ ranged quantity (beAt s at 8) && quantities (n - 1) s (at + 8)
+unfolding quantities
+quantities-step zero s at h = absurd (omega arith)
+quantities-step (suc n) s at h = rw (pred-is n)
+
+pub quantities-none : (n : ℕ) (s : List ℕ) (at : ℕ) → n ≤ 0 → quantities n s at ≡ true
+unfolding quantities
+quantities-none zero s at h = refl
+quantities-none (suc n) s at h = absurd (omega arith)
+
+-- ---- groups
+
+module _ (g : Group) (s : List ℕ) where
+  fit-step : (at k : ℕ) → 0 < k → fit g s at k ≡ leb (shownPlace g at) (length s) && (leb (next g s at) (length s) && fit g s (next g s at) (k - 1))
+  unfolding fit
+  fit-step at zero h = absurd (omega arith)
+  fit-step at (suc k) h = rw (pred-is k)
+
+  pub fit-none : (at k : ℕ) → k ≤ 0 → fit g s at k ≡ true
+  unfolding fit
+  fit-none at zero h = refl
+  fit-none at (suc k) h = absurd (omega arith)
+
+  pub fit-short : (at k : ℕ) → 0 < k → length s < shownPlace g at → fit g s at k ≡ false
+  fit-short at k h n = fit-step at k h ∙ rw (lt-leb (shownPlace g at) (length s) n)
+
+  pub fit-behind : (at k : ℕ) → 0 < k → length s < next g s at → fit g s at k ≡ false
+  fit-behind at k h n = fit-step at k h ∙ rw (lt-leb (next g s at) (length s) n) (no-more (leb (shownPlace g at) (length s)))
+    where
+      no-more : (b : Bool) → b && false ≡ false
+      no-more true = refl
+      no-more false = refl
+
+  pub fit-on : (at k : ℕ) → 0 < k → next g s at ≤ length s → fit g s at k ≡ fit g s (next g s at) (k - 1)
+  fit-on at k h n =
+      fit-step at k h ∙ rw (le-leb (shownPlace g at) (length s) (omega arith), le-leb (next g s at) (length s) n)
+
+  -- what is known of the next group where k fit
+  pub record Ahead (at k : ℕ) : Type 0 where
+    pub fixed : shownPlace g at ≤ length s
+    pub whole : next g s at ≤ length s
+    pub rest : fit g s (next g s at) (k - 1) ≡ true
+
+  pub ahead : (at k : ℕ) → 0 < k → fit g s at k ≡ true → Ahead at k
+  ahead at k h e =
+      let a = and-both (leb (shownPlace g at) (length s)) (leb (next g s at) (length s) && fit g s (next g s at) (k - 1)) (sym (fit-step at k h) ∙ e) in
+      let b = and-both (leb (next g s at) (length s)) (fit g s (next g s at) (k - 1)) (a .1) in
+      record { fixed = leb-true _ _ (a .0); whole = leb-true _ _ (b .0); rest = b .1 }
+
+  pub place-step : (at k : ℕ) → 0 < k → place g s at k ≡ place g s (next g s at) (k - 1)
+  unfolding place
+  place-step at zero h = absurd (omega arith)
+  place-step at (suc k) h = rw (pred-is k)
+
+  pub place-none : (at k : ℕ) → k ≤ 0 → place g s at k ≡ at
+  unfolding place
+  place-none at zero h = refl
+  place-none at (suc k) h = absurd (omega arith)
+
+  -- the place of the group behind group i
+  pub place-next : (at i : ℕ) → place g s at (suc i) ≡ next g s (place g s at i)
+  unfolding place
+  place-next at zero = refl
+  place-next at (suc i) = place-next (next g s at) i
+
+  pub groupRanges-step : (at k : ℕ) → 0 < k → groupRanges g s at k ≡ (ranges (g .fields) s at && quantities (shown g s at) s (shownPlace g at)) && groupRanges g s (next g s at) (k - 1)
+  unfolding groupRanges
+  groupRanges-step at zero h = absurd (omega arith)
+  groupRanges-step at (suc k) h = rw (pred-is k)
+
+  pub groupRanges-none : (at k : ℕ) → k ≤ 0 → groupRanges g s at k ≡ true
+  unfolding groupRanges
+  groupRanges-none at zero h = refl
+  groupRanges-none at (suc k) h = absurd (omega arith)
+
+  -- fewer groups fit too; where they end is within the bytes; and group i fits where it stands
+  pub fit-fewer : (at i k : ℕ) → i ≤ k → fit g s at k ≡ true → fit g s at i ≡ true
+  fit-fewer at zero k h e = fit-none at 0 zero-le
+  fit-fewer at (suc i) k h e =
+      let n : Ahead at k = ahead at k (omega arith) e in
+      fit-on at (suc i) (omega arith) (n .whole) ∙ rw (pred-is i) (fit-fewer (next g s at) i (k - 1) (omega arith) (n .rest))
+
+  pub place-within : (at i : ℕ) → at ≤ length s → fit g s at i ≡ true → place g s at i ≤ length s
+  place-within at zero h e = rw (place-none at 0 zero-le) h
+  place-within at (suc i) h e =
+      let n : Ahead at (suc i) = ahead at (suc i) (omega arith) e in
+      rw (place-step at (suc i) (omega arith), pred-is i) (place-within (next g s at) i (n .whole) (rw (pred-is i) at (n .rest)))
+
+  pub place-behind : (at i : ℕ) → at ≤ place g s at i
+  unfolding place
+  place-behind at zero = omega arith
+  place-behind at (suc i) = omega (arith, place-behind (next g s at) i)
+
+  pub fit-there : (at i k : ℕ) → i < k → fit g s at k ≡ true → fit g s (place g s at i) (k - i) ≡ true
+  unfolding place
+  fit-there at zero k h e = let m : k - 0 ≡ k = omega arith in rw m e
+  fit-there at (suc i) k h e =
+      let n : Ahead at k = ahead at k (omega arith) e in
+      let m : k - 1 - i ≡ k - suc i = omega arith in
+      rw m at (fit-there (next g s at) i (k - 1) (omega arith) (n .rest))
+
+-- ---- a group in the part that holds its fields
+
+pub ranges-part : (l : List Kind) (s : List ℕ) (p w i : ℕ) → i + size l ≤ w → ranges l (take w (drop p s)) i ≡ ranges l s (p + i)
+unfolding ranges size
+ranges-part [] s p w i h = refl
+ranges-part (k ∷ ks) s p w i h =
+    let e : p + (i + width k) ≡ p + i + width k = omega arith in
+    rw (beAt-part s p w i (width k) (omega arith), ranges-part ks s p w (i + width k) (omega arith), e)
+
+pub ranges-here : (l : List Kind) (s : List ℕ) (p e : ℕ) → p + size l ≡ e → ranges l (part p e s) 0 ≡ ranges l s p
+ranges-here l s p e h =
+    let z : p + 0 ≡ p = omega arith in
+    rw z at (ranges-part l s p (e - p) 0 (omega arith))
+
+shown-by : (b : Bool) (g : Group) (s : List ℕ) (p e : ℕ) → p + size (g .fields) ≡ e → 4 ≤ size (g .fields) → g .shows ≡ b → shown g (part p e s) 0 ≡ shown g s p
+unfolding shown
+shown-by true g s p e h k b =
+    let z : p + (0 + size (g .fields) - 4) ≡ p + size (g .fields) - 4 = omega arith in
+    rw (b, ← z) (beAt-part s p (e - p) (0 + size (g .fields) - 4) 4 (omega arith))
+shown-by false g s p e h k b = rw b
+
+pub shown-here : (g : Group) (s : List ℕ) (p e : ℕ) → p + size (g .fields) ≡ e → 4 ≤ size (g .fields) → shown g (part p e s) 0 ≡ shown g s p
+shown-here g s p e h k = shown-by (g .shows) g s p e h k refl
+
+-- ---- verdicts
+
+-- what an acceptance says
+pub record Good (there inRange : Bool) : Type 0 where
+  pub all : there ≡ true
+  pub each : inRange ≡ true
+
+good-by : (a b : Bool) (x : Answer Unit) → verdict a b ≡ x → x ≡ accepted tt → Good a b
+unfolding guard
+good-by true true x e f = record { all = refl; each = refl }
+good-by true false x e f = let z : _≡_ {A = ℕ} 0 1 = cc in absurd (omega arith)
+good-by false b x e f = let z : _≡_ {A = ℕ} 0 1 = cc in absurd (omega arith)
+
+pub good : (a b : Bool) → verdict a b ≡ accepted tt → Good a b
+good a b e = good-by a b (verdict a b) refl e
+
+-- ---- a body
+
+also-by : (f r g : Bool) → verdict f (r && g) ≡ also r (verdict f g)
+unfolding guard
+also-by true true true = refl
+also-by true true false = refl
+also-by true false true = refl
+also-by true false false = refl
+also-by false true true = refl
+also-by false true false = refl
+also-by false false true = refl
+also-by false false false = refl
+
+module _ (m : Message) (s : List ℕ) where
+  -- a body that lacks bytes of its fields
+  pub judged-short : length s < start m → judged m s ≡ refused notItsLayout []
+  unfolding judged guard
+  judged-short h = rw (lt-leb (start m) (length s) h)
+
+  -- one that has them
+  pub judged-long : start m ≤ length s → judged m s ≡ also (ranges (fields m) s 0) (judgedFrom (group m) s (start m) (count m s))
+  unfolding judged judgedFrom
+  judged-long h =
+      rw (le-leb (start m) (length s) h)
+      (also-by (fit (group m) s (start m) (count m s)) (ranges (fields m) s 0) (groupRanges (group m) s (start m) (count m s)))
+
+-- nothing behind the fields is always there and in range
+pub judged-nothing : (s : List ℕ) (at : ℕ) → judgedFrom noGroup s at 0 ≡ accepted tt
+unfolding judgedFrom fit groupRanges guard
+judged-nothing s at = refl
+
+-- an accepted body has its fields and its groups
+pub record Whole (m : Message) (s : List ℕ) : Type 0 where
+  pub long : start m ≤ length s
+  pub groups : fit (group m) s (start m) (count m s) ≡ true
+
+pub has-all : (m : Message) (s : List ℕ) → judged m s ≡ accepted tt → Whole m s
+unfolding judged
+has-all m s e =
+    let g = good (leb (start m) (length s) && fit (group m) s (start m) (count m s)) (ranges (fields m) s 0 && groupRanges (group m) s (start m) (count m s)) e in
+    let b = and-both (leb (start m) (length s)) (fit (group m) s (start m) (count m s)) (g .all) in
+    record { long = leb-true _ _ (b .0); groups = b .1 }
