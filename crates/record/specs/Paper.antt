@@ -12,7 +12,7 @@ use Rattle.record.specs.Entry.{Says, level, levelWithoutPrice, price, si
 use Rattle.record.specs.Record as record-of
 use Rattle.record.specs.declared.Record.{Record}
 use Rattle.record.specs.declared.Record.the-variants.{Heartbeat, ChannelHeartbeat, Resend, Statistics, SecurityStatus, Snapshot, Index, VolumeIndex, Order, Trade, Unknown}
-use Rattle.record.specs.declared.snapshot.Common.{Common}
+use Rattle.record.specs.declared.common.Common.{Common}
 use Rattle.record.specs.declared.texts.Text as code-text
 use Rattle.record.specs.declared.Answer as code-answer
 use Rattle.record.specs.declared.Reading as code-reading

@@ -1,6 +1,59 @@
 // 390095, channel heartbeat.
+ghost use mathlib.Core.Path.{_≡_};
+ghost use Rattle.layout.specs.Layout.{fields, ranges};
+ghost use Rattle.layout.specs.Layout as of;
+ghost use Rattle.layout.specs.Group.{judged};
+ghost use Rattle.layout.specs.Paper as layout_paper;
+ghost use Rattle.record.specs.Paper.{paper};
+ghost use Rattle.record.specs.Record.{readAs};
+use crate::Answer;
+use crate::Reading;
+use crate::Record;
+use crate::refused;
+use crate::texts::no_texts;
+use layout::Refusal;
+use layout::Verdict;
+use layout::natural;
+use layout::yes_no;
+
 pub struct ChannelHeartbeat {
     pub channel: u16,
     pub last_number: i64,
     pub end: u16,
+}
+
+// Whether its fields are in range.
+fn in_range(body: &[u8]) -> bool
+    ensures { λ r. ⌜ r ≡ ranges (fields of.channelHeartbeat) (now (body .entry)) 0 ⌝ }
+{
+    natural(wire::be8(body, 2)) & (yes_no(wire::be2(body, 10)))
+}
+
+// 4 where the body lacks bytes, else 5 where a field is out of range.
+pub(crate) fn judge(body: &[u8]) -> Verdict
+    ensures { λ r. ⌜ layout_paper.paper r ≡ judged of.channelHeartbeat (now (body .entry)) ⌝ }
+{
+    if body.len() < 12 {
+        return Verdict::Refused(Refusal::NotItsLayout);
+    }
+    Verdict::Accepted.also(in_range(body))
+}
+
+pub(crate) fn read(body: &[u8]) -> Reading
+    ensures { λ r. ⌜ paper r ≡ readAs of.channelHeartbeat (now (body .entry)) ⌝ }
+{
+    match judge(body) {
+        Verdict::Accepted => {
+            let record = ChannelHeartbeat {
+                channel: wire::be2(body, 0),
+                last_number: wire::i64_at(body, 2),
+                end: wire::be2(body, 10),
+            };
+            Reading {
+                answer: Answer::Read(Record::ChannelHeartbeat(record)),
+                texts: no_texts(),
+            }
+        }
+        Verdict::Refused(x) => refused(x),
+    }
 }

@@ -1,7 +1,19 @@
 // Typed records of the ten listed types: a frame's type and body in, a record out, or refusal 4 or 5.
+ghost use mathlib.Core.Path.{_≡_};
+ghost use mathlib.Core.List.{[]};
+ghost use Rattle.wire.specs.Answer.{accepted, refused};
+ghost use Rattle.layout.specs.Layout.{named};
+ghost use Rattle.layout.specs.Paper as layout_paper;
+ghost use Rattle.record.specs.Asked.{told, judging};
+ghost use Rattle.record.specs.Record as told_of;
+ghost use Rattle.record.specs.Record.{reading, isListed};
+ghost use Rattle.record.specs.Paper.{paper};
+
 mod channel_heartbeat;
+mod common;
 mod cursor;
 mod entry;
+mod heartbeat;
 mod index;
 mod order;
 mod resend;
@@ -13,6 +25,7 @@ mod trade;
 mod volume_index;
 
 pub use channel_heartbeat::ChannelHeartbeat;
+pub use common::Common;
 pub use cursor::Cursor;
 pub use cursor::Step;
 pub use entry::AskedEntry;
@@ -21,16 +34,17 @@ pub use entry::Entry;
 pub use entry::Says;
 pub use index::Index;
 pub use layout::Refusal;
+use layout::Verdict;
 pub use order::Order;
 pub use resend::Resend;
 pub use security_status::SecurityStatus;
 pub use security_status::Switch;
-pub use snapshot::Common;
 pub use snapshot::Snapshot;
 pub use statistics::Statistics;
 pub use statistics::Stream;
 pub use texts::Text;
 pub use texts::Texts;
+use texts::no_texts;
 pub use trade::Trade;
 pub use volume_index::VolumeIndex;
 
@@ -94,4 +108,79 @@ pub enum Group {
 pub struct AskedGroup {
     pub group: Group,
     pub texts: Texts,
+}
+
+pub(crate) fn refused(x: Refusal) -> Reading
+    ensures { λ r. ⌜ paper r ≡ told (refused (layout_paper.refusal x) []) [] ⌝ }
+{
+    Reading {
+        answer: Answer::Refused(x),
+        texts: no_texts(),
+    }
+}
+
+fn unknown(kind: u32) -> Reading
+    ensures { λ r. ⌜ paper r ≡ told (accepted (told_of.unknown kind)) [] ⌝ }
+{
+    Reading {
+        answer: Answer::Read(Record::Unknown(kind)),
+        texts: no_texts(),
+    }
+}
+
+// Whether a type is one of the ten.
+pub fn listed(kind: u32) -> bool
+    ensures { λ r. ⌜ r ≡ isListed (named kind) ⌝ }
+{
+    match kind {
+        Record::HEARTBEAT => true,
+        Record::CHANNEL_HEARTBEAT => true,
+        Record::RESEND => true,
+        Record::STATISTICS => true,
+        Record::SECURITY_STATUS => true,
+        Record::SNAPSHOT => true,
+        Record::INDEX => true,
+        Record::VOLUME_INDEX => true,
+        Record::ORDER => true,
+        Record::TRADE => true,
+        _ => false,
+    }
+}
+
+// How a body of a type is judged: 4 where it lacks bytes of its layout, else 5 where a field is out of range. An unlisted type is accepted.
+pub fn judge(kind: u32, body: &[u8]) -> Verdict
+    ensures { λ r. ⌜ layout_paper.paper r ≡ judging kind (now (body .entry)) ⌝ }
+{
+    match kind {
+        Record::HEARTBEAT => heartbeat::judge(body),
+        Record::CHANNEL_HEARTBEAT => channel_heartbeat::judge(body),
+        Record::RESEND => resend::judge(body),
+        Record::STATISTICS => statistics::judge(body),
+        Record::SECURITY_STATUS => security_status::judge(body),
+        Record::SNAPSHOT => snapshot::judge(body),
+        Record::INDEX => index::judge(body),
+        Record::VOLUME_INDEX => volume_index::judge(body),
+        Record::ORDER => order::judge(body),
+        Record::TRADE => trade::judge(body),
+        _ => Verdict::Accepted,
+    }
+}
+
+// The record of a type and a body, with its texts; or refusal 4 or 5. An unlisted type is answered as unknown.
+pub fn read(kind: u32, body: &[u8]) -> Reading
+    ensures { λ r. ⌜ paper r ≡ reading kind (now (body .entry)) ⌝ }
+{
+    match kind {
+        Record::HEARTBEAT => heartbeat::read(body),
+        Record::CHANNEL_HEARTBEAT => channel_heartbeat::read(body),
+        Record::RESEND => resend::read(body),
+        Record::STATISTICS => statistics::read(body),
+        Record::SECURITY_STATUS => security_status::read(body),
+        Record::SNAPSHOT => snapshot::read(body),
+        Record::INDEX => index::read(body),
+        Record::VOLUME_INDEX => volume_index::read(body),
+        Record::ORDER => order::read(body),
+        Record::TRADE => trade::read(body),
+        _ => unknown(kind),
+    }
 }

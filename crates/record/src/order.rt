@@ -1,4 +1,25 @@
-// 300192, order.
+// 300192, order; its texts are stream, security and source.
+ghost use mathlib.Core.Path.{_≡_};
+ghost use Rattle.layout.specs.Layout.{fields, ranges};
+ghost use Rattle.layout.specs.Layout as of;
+ghost use Rattle.layout.specs.Group.{judged};
+ghost use Rattle.layout.specs.Paper as layout_paper;
+ghost use Rattle.record.specs.Paper.{paper};
+ghost use Rattle.record.specs.Record.{readAs};
+use crate::Answer;
+use crate::Reading;
+use crate::Record;
+use crate::refused;
+use crate::texts::gather;
+use layout::Refusal;
+use layout::Verdict;
+use layout::number;
+use layout::order_type;
+use layout::price;
+use layout::quantity;
+use layout::side;
+use layout::time;
+
 pub struct Order {
     pub channel: u16,
     pub number: i64,
@@ -7,4 +28,48 @@ pub struct Order {
     pub side: u8,
     pub time: i64,
     pub order_type: u8,
+}
+
+// Whether its fields are in range.
+fn in_range(body: &[u8]) -> bool
+    ensures { λ r. ⌜ r ≡ ranges (fields of.order) (now (body .entry)) 0 ⌝ }
+{
+    number(wire::be8(body, 2))
+        & (price(wire::be8(body, 25))
+            & (quantity(wire::be8(body, 33))
+                & (side(wire::be1(body, 41))
+                    & (time(wire::be8(body, 42)) & (order_type(wire::be1(body, 50)))))))
+}
+
+// 4 where the body lacks bytes, else 5 where a field is out of range.
+pub(crate) fn judge(body: &[u8]) -> Verdict
+    ensures { λ r. ⌜ layout_paper.paper r ≡ judged of.order (now (body .entry)) ⌝ }
+{
+    if body.len() < 51 {
+        return Verdict::Refused(Refusal::NotItsLayout);
+    }
+    Verdict::Accepted.also(in_range(body))
+}
+
+pub(crate) fn read(body: &[u8]) -> Reading
+    ensures { λ r. ⌜ paper r ≡ readAs of.order (now (body .entry)) ⌝ }
+{
+    match judge(body) {
+        Verdict::Accepted => {
+            let record = Order {
+                channel: wire::be2(body, 0),
+                number: wire::i64_at(body, 2),
+                order_price: wire::i64_at(body, 25),
+                quantity: wire::i64_at(body, 33),
+                side: wire::be1(body, 41),
+                time: wire::i64_at(body, 42),
+                order_type: wire::be1(body, 50),
+            };
+            Reading {
+                answer: Answer::Read(Record::Order(record)),
+                texts: gather(body, 10, 15, 0, 0),
+            }
+        }
+        Verdict::Refused(x) => refused(x),
+    }
 }

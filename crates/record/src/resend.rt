@@ -1,8 +1,66 @@
-// 390094, resend.
+// 390094, resend; its texts are news id and reject text.
+ghost use mathlib.Core.Path.{_≡_};
+ghost use Rattle.layout.specs.Layout.{fields, ranges};
+ghost use Rattle.layout.specs.Layout as of;
+ghost use Rattle.layout.specs.Group.{judged};
+ghost use Rattle.layout.specs.Paper as layout_paper;
+ghost use Rattle.record.specs.Paper.{paper};
+ghost use Rattle.record.specs.Record.{readAs};
+use crate::Answer;
+use crate::Reading;
+use crate::Record;
+use crate::refused;
+use crate::texts::gather;
+use layout::Refusal;
+use layout::Verdict;
+use layout::natural;
+use layout::resend_type;
+use layout::status;
+
 pub struct Resend {
     pub resend_type: u8,
     pub channel: u16,
     pub first_number: i64,
     pub last_number: i64,
     pub status: u8,
+}
+
+// Whether its fields are in range.
+fn in_range(body: &[u8]) -> bool
+    ensures { λ r. ⌜ r ≡ ranges (fields of.resend) (now (body .entry)) 0 ⌝ }
+{
+    resend_type(wire::be1(body, 0))
+        & (natural(wire::be8(body, 3))
+            & (natural(wire::be8(body, 11)) & (status(wire::be1(body, 27)))))
+}
+
+// 4 where the body lacks bytes, else 5 where a field is out of range.
+pub(crate) fn judge(body: &[u8]) -> Verdict
+    ensures { λ r. ⌜ layout_paper.paper r ≡ judged of.resend (now (body .entry)) ⌝ }
+{
+    if body.len() < 44 {
+        return Verdict::Refused(Refusal::NotItsLayout);
+    }
+    Verdict::Accepted.also(in_range(body))
+}
+
+pub(crate) fn read(body: &[u8]) -> Reading
+    ensures { λ r. ⌜ paper r ≡ readAs of.resend (now (body .entry)) ⌝ }
+{
+    match judge(body) {
+        Verdict::Accepted => {
+            let record = Resend {
+                resend_type: wire::be1(body, 0),
+                channel: wire::be2(body, 1),
+                first_number: wire::i64_at(body, 3),
+                last_number: wire::i64_at(body, 11),
+                status: wire::be1(body, 27),
+            };
+            Reading {
+                answer: Answer::Read(Record::Resend(record)),
+                texts: gather(body, 19, 8, 28, 16),
+            }
+        }
+        Verdict::Refused(x) => refused(x),
+    }
 }

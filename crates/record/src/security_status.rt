@@ -1,4 +1,21 @@
-// 390013, security status.
+// 390013, security status; its texts are security, source and financial status.
+ghost use mathlib.Core.Path.{_≡_};
+ghost use Rattle.layout.specs.Layout.{fields, ranges};
+ghost use Rattle.layout.specs.Layout as of;
+ghost use Rattle.layout.specs.Group.{judged};
+ghost use Rattle.layout.specs.Paper as layout_paper;
+ghost use Rattle.record.specs.Paper.{paper};
+ghost use Rattle.record.specs.Record.{readAs};
+use crate::Answer;
+use crate::Reading;
+use crate::Record;
+use crate::refused;
+use crate::texts::gather;
+use layout::Groups;
+use layout::Refusal;
+use layout::Verdict;
+use layout::time;
+
 pub struct SecurityStatus {
     pub time: i64,
     pub channel: u16,
@@ -9,4 +26,40 @@ pub struct SecurityStatus {
 pub struct Switch {
     pub switch_type: u16,
     pub yes_no: u16,
+}
+
+// Whether its fields are in range.
+fn in_range(body: &[u8]) -> bool
+    ensures { λ r. ⌜ r ≡ ranges (fields of.securityStatus) (now (body .entry)) 0 ⌝ }
+{
+    time(wire::be8(body, 0))
+}
+
+// 4 where the body lacks bytes, else 5 where a field is out of range.
+pub(crate) fn judge(body: &[u8]) -> Verdict
+    ensures { λ r. ⌜ layout_paper.paper r ≡ judged of.securityStatus (now (body .entry)) ⌝ }
+{
+    if body.len() < 34 {
+        return Verdict::Refused(Refusal::NotItsLayout);
+    }
+    layout::judge(Groups::Switches, body, 34, wire::be4(body, 30)).also(in_range(body))
+}
+
+pub(crate) fn read(body: &[u8]) -> Reading
+    ensures { λ r. ⌜ paper r ≡ readAs of.securityStatus (now (body .entry)) ⌝ }
+{
+    match judge(body) {
+        Verdict::Accepted => {
+            let record = SecurityStatus {
+                time: wire::i64_at(body, 0),
+                channel: wire::be2(body, 8),
+                count: wire::be4(body, 30),
+            };
+            Reading {
+                answer: Answer::Read(Record::SecurityStatus(record)),
+                texts: gather(body, 10, 20, 0, 0),
+            }
+        }
+        Verdict::Refused(x) => refused(x),
+    }
 }

@@ -1,4 +1,21 @@
 // 390090, statistics.
+ghost use mathlib.Core.Path.{_≡_};
+ghost use Rattle.layout.specs.Layout.{fields, ranges};
+ghost use Rattle.layout.specs.Layout as of;
+ghost use Rattle.layout.specs.Group.{judged};
+ghost use Rattle.layout.specs.Paper as layout_paper;
+ghost use Rattle.record.specs.Paper.{paper};
+ghost use Rattle.record.specs.Record.{readAs};
+use crate::Answer;
+use crate::Reading;
+use crate::Record;
+use crate::refused;
+use crate::texts::no_texts;
+use layout::Groups;
+use layout::Refusal;
+use layout::Verdict;
+use layout::time;
+
 pub struct Statistics {
     pub time: i64,
     pub channel: u16,
@@ -8,4 +25,40 @@ pub struct Statistics {
 // A group of it; its texts are stream and phase.
 pub struct Stream {
     pub stock_number: u32,
+}
+
+// Whether its fields are in range.
+fn in_range(body: &[u8]) -> bool
+    ensures { λ r. ⌜ r ≡ ranges (fields of.statistics) (now (body .entry)) 0 ⌝ }
+{
+    time(wire::be8(body, 0))
+}
+
+// 4 where the body lacks bytes, else 5 where a field is out of range.
+pub(crate) fn judge(body: &[u8]) -> Verdict
+    ensures { λ r. ⌜ layout_paper.paper r ≡ judged of.statistics (now (body .entry)) ⌝ }
+{
+    if body.len() < 14 {
+        return Verdict::Refused(Refusal::NotItsLayout);
+    }
+    layout::judge(Groups::Streams, body, 14, wire::be4(body, 10)).also(in_range(body))
+}
+
+pub(crate) fn read(body: &[u8]) -> Reading
+    ensures { λ r. ⌜ paper r ≡ readAs of.statistics (now (body .entry)) ⌝ }
+{
+    match judge(body) {
+        Verdict::Accepted => {
+            let record = Statistics {
+                time: wire::i64_at(body, 0),
+                channel: wire::be2(body, 8),
+                count: wire::be4(body, 10),
+            };
+            Reading {
+                answer: Answer::Read(Record::Statistics(record)),
+                texts: no_texts(),
+            }
+        }
+        Verdict::Refused(x) => refused(x),
+    }
 }

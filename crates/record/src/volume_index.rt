@@ -1,7 +1,51 @@
-// 309111, volume index.
-use crate::Common;
+// 309111, volume index; its texts are stream, security, source and phase.
+ghost use mathlib.Core.Path.{_≡_};
+ghost use Rattle.layout.specs.Layout.{fields, ranges};
+ghost use Rattle.layout.specs.Layout as of;
+ghost use Rattle.layout.specs.Group.{judged};
+ghost use Rattle.layout.specs.Paper as layout_paper;
+ghost use Rattle.record.specs.Paper.{paper};
+ghost use Rattle.record.specs.Record.{readAs};
+use crate::Answer;
+use crate::Reading;
+use crate::Record;
+use crate::common::Common;
+use crate::common::common_in;
+use crate::common::common_of;
+use crate::refused;
+use crate::texts::gather;
+use layout::Refusal;
+use layout::Verdict;
 
 pub struct VolumeIndex {
     pub common: Common,
     pub stock_number: u32,
+}
+
+// 4 where the body lacks bytes, else 5 where a field is out of range.
+pub(crate) fn judge(body: &[u8]) -> Verdict
+    ensures { λ r. ⌜ layout_paper.paper r ≡ judged of.volumeIndex (now (body .entry)) ⌝ }
+{
+    if body.len() < 69 {
+        return Verdict::Refused(Refusal::NotItsLayout);
+    }
+    Verdict::Accepted.also(common_in(body))
+}
+
+pub(crate) fn read(body: &[u8]) -> Reading
+    ensures { λ r. ⌜ paper r ≡ readAs of.volumeIndex (now (body .entry)) ⌝ }
+{
+    match judge(body) {
+        Verdict::Accepted => {
+            let record = VolumeIndex {
+                common: common_of(body),
+                stock_number: wire::be4(body, 65),
+            };
+            Reading {
+                answer: Answer::Read(Record::VolumeIndex(record)),
+                texts: gather(body, 10, 23, 0, 0),
+            }
+        }
+        Verdict::Refused(x) => refused(x),
+    }
 }

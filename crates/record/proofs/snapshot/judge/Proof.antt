@@ -1,0 +1,27 @@
+use Prim.Native.Nat.{ℕ}
+use Rattle.layout.proofs.Free.{free-group-count}
+use Rattle.layout.proofs.Walk.{judged-short, judged-long}
+use Rattle.layout.specs.Group.{also, judgedFrom}
+use Rattle.layout.specs.Kind.{groupCount}
+use Rattle.layout.specs.Layout.{snapshot, snapshotEntries, size}
+use Rattle.record.proofs.Tell.{common-and}
+use borrow.Author.Needs.{needs}
+use denote.Ref.{now}
+use mathlib.Core.Path.{ap, sym, _∙_}
+use Rattle.record.proofs.snapshot.judge.Statement.{statement}
+use Rattle.record.proofs.snapshot.judge.Tie as tie
+
+returns : tie.Need-returns
+unfolding size
+returns c = sym (judged-short snapshot (now (c .before .before .args .body)) (c .if1 .taken))
+
+returns-2 : tie.Need-returns-2
+unfolding size
+returns-2 c =
+    let s = now (c .before .before .before .before .before .before .args .body) in
+    c .also .ensures
+    ∙ (λ i. also ((c .before .common-in .ensures ∙ common-and groupCount free-group-count s) i) ((c .before .before .judge .ensures ∙ ap (λ (k : ℕ). judgedFrom snapshotEntries s 69 k) (c .before .before .before .be4 .ensures)) i))
+    ∙ sym (judged-long snapshot s (c .before .before .before .before .if1 .left))
+
+pub judge-spec : {M : Type 1} → statement M
+judge-spec = tie.close (tie.spec returns (λ c κs. search needs) (λ c κs. search needs) (λ c κs. search needs) (λ c κs. search needs) returns-2)

@@ -1,0 +1,42 @@
+// The part that snapshot, index and volume index have in common.
+ghost use mathlib.Core.Path.{_≡_};
+ghost use mathlib.Core.List.{[]};
+ghost use Rattle.layout.specs.Layout.{commonPart, ranges, values};
+ghost use Rattle.record.specs.Paper.{commonValues};
+use layout::amount;
+use layout::natural;
+use layout::price;
+use layout::quantity;
+use layout::time;
+
+pub struct Common {
+    pub time: i64,
+    pub channel: u16,
+    pub previous_close: i64,
+    pub trade_count: i64,
+    pub volume: i64,
+    pub amount: i64,
+}
+
+// Whether its fields are in range.
+pub(crate) fn common_in(body: &[u8]) -> bool
+    ensures { λ r. ⌜ r ≡ ranges commonPart (now (body .entry)) 0 ⌝ }
+{
+    time(wire::be8(body, 0))
+        & (price(wire::be8(body, 33))
+            & (natural(wire::be8(body, 41))
+                & (quantity(wire::be8(body, 49)) & amount(wire::be8(body, 57)))))
+}
+
+pub(crate) fn common_of(body: &[u8]) -> Common
+    ensures { λ r. ⌜ commonValues r [] ≡ values commonPart (now (body .entry)) 0 ⌝ }
+{
+    Common {
+        time: wire::i64_at(body, 0),
+        channel: wire::be2(body, 8),
+        previous_close: wire::i64_at(body, 33),
+        trade_count: wire::i64_at(body, 41),
+        volume: wire::i64_at(body, 49),
+        amount: wire::i64_at(body, 57),
+    }
+}
