@@ -4,6 +4,7 @@ use Prim.Native.Nat.{ℕ, zero, suc, _+_, _-_, _*_, _<_, _≤_, zero-le}
 use mathlib.Core.Path.{_≡_, refl, ap, sym, _∙_}
 use mathlib.Core.Bool.{Bool, true, false, not, _&&_}
 use mathlib.Core.List.{List, [], _∷_}
+use native.Mathlib.Nat.{mul-suc}
 use native.Mathlib.Omega.{arith}
 use borrow.Author.Tests.{le-leb, lt-leb, leb-true}
 use lib.Dec.{leb}
@@ -128,6 +129,18 @@ module _ (g : Group) (s : List ℕ) where
       let n : Ahead at k = ahead at k (omega arith) e in
       let m : k - 1 - i ≡ k - suc i = omega arith in
       rw m at (fit-there (next g s at) i (k - 1) (omega arith) (n .rest))
+
+  -- group i of k that fit has its fields
+  pub fields-there : (at i k : ℕ) → i < k → fit g s at k ≡ true → place g s at i + size (g .fields) ≤ length s
+  fields-there at i k h e = ahead (place g s at i) (k - i) (omega arith) (fit-there at i k h e) .fixed
+
+  -- groups that show nothing stand one width from each other
+  pub place-flat : g .shows ≡ false → (at i : ℕ) → place g s at i ≡ at + size (g .fields) * i
+  unfolding place shown
+  place-flat h at zero = omega arith
+  place-flat h at (suc i) =
+      let e : next g s at ≡ at + size (g .fields) = rw h (omega arith) in
+      rw (e, mul-suc (size (g .fields)) i, place-flat h (at + size (g .fields)) i) (omega arith)
 
 -- ---- a group in the part that holds its fields
 

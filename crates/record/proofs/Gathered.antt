@@ -8,7 +8,7 @@ use lib.ListN.{length, take, drop, length-append}
 use lib.Seq.{take-add, drop-drop}
 use Rattle.wire.specs.Bytes.{part, splice, placed}
 use Rattle.wire.proofs.Place.{placed-fits, length-splice, splice-more}
-use Rattle.layout.specs.Layout.{fields, texts, resend, securityStatus, snapshot, index, volumeIndex, order, trade}
+use Rattle.layout.specs.Layout.{fields, texts, resend, securityStatus, snapshot, index, volumeIndex, order, trade, streams}
 use Rattle.record.specs.Asked.{zeros, filled}
 
 module _ (s : List ℕ) where
@@ -50,6 +50,14 @@ module _ (s : List ℕ) where
   pub volume-texts : part 10 33 s ++ part 0 0 s ≡ texts (fields volumeIndex) s 0
   unfolding texts
   volume-texts = rw (four 3 8 4 8 10) (simp append-assoc)
+
+  pub stream-texts : (at : ℕ) → part at (at + 3) s ++ part (at + 7) (at + 7 + 8) s ≡ texts (streams .fields) s at
+  unfolding texts
+  stream-texts at =
+      let a : at + 3 - at ≡ 3 = omega arith in
+      let b : at + 7 + 8 - (at + 7) ≡ 8 = omega arith in
+      let e : at + 3 + 4 ≡ at + 7 = omega arith in
+      rw (a, b, e) (ap (λ (l : List ℕ). take 3 (drop at s) ++ l) (sym (append-nil (take 8 (drop (at + 7) s)))))
 
 -- ---- placed in zeros
 

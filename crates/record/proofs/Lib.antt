@@ -1,3 +1,4 @@
 pub mod Tell
 pub mod Gathered
 pub mod Choice
+pub mod Grouped

@@ -16,8 +16,8 @@ use Rattle.record.specs.declared.common.Common.{Common}
 use Rattle.record.specs.declared.texts.Text as code-text
 use Rattle.record.specs.declared.Answer as code-answer
 use Rattle.record.specs.declared.Reading as code-reading
-use Rattle.record.specs.declared.Group as code-group
-use Rattle.record.specs.declared.AskedGroup as code-asked
+use Rattle.record.specs.declared.group.GroupAnswer as code-group
+use Rattle.record.specs.declared.group.GroupReading as group-reading
 use Rattle.record.specs.declared.entry.Says as code-says
 use Rattle.record.specs.declared.entry.Entry as code-entry
 use Rattle.record.specs.declared.entry.AskedEntry as asked-entry
@@ -70,14 +70,14 @@ meant code-text.the-variants.RejectText = rejectText
 
 -- ---- groups
 
-abbrev pub paperGroup : code-group.Group → Answer (Asked (List ℤ))
-paperGroup (code-group.the-variants.Stream g) = accepted (found (pos (g .«stock_number») ∷ []))
-paperGroup (code-group.the-variants.Switch g) = accepted (found (pos (g .«switch_type») ∷ pos (g .«yes_no») ∷ []))
-paperGroup code-group.the-variants.NoSuchEntry = accepted noSuchEntry
-paperGroup (code-group.the-variants.Refused x) = refused (refusal x) []
+abbrev pub groupAnswer : code-group.GroupAnswer → Answer (Asked (List ℤ))
+groupAnswer (code-group.the-variants.Stream g) = accepted (found (pos (g .«stock_number») ∷ []))
+groupAnswer (code-group.the-variants.Switch g) = accepted (found (pos (g .«switch_type») ∷ pos (g .«yes_no») ∷ []))
+groupAnswer code-group.the-variants.NoSuchEntry = accepted noSuchEntry
+groupAnswer (code-group.the-variants.Refused x) = refused (refusal x) []
 
-abbrev pub paperAsked : code-asked.AskedGroup → Told (Asked (List ℤ))
-paperAsked r = record { answer = paperGroup (r .group); texts = r .texts .bytes; used = r .texts .length }
+abbrev pub paperGroup : group-reading.GroupReading → Told (Asked (List ℤ))
+paperGroup r = record { answer = groupAnswer (r .answer); texts = r .texts .bytes; used = r .texts .length }
 
 -- ---- entries
 

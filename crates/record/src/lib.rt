@@ -13,6 +13,7 @@ mod channel_heartbeat;
 mod common;
 mod cursor;
 mod entry;
+mod group;
 mod heartbeat;
 mod index;
 mod order;
@@ -32,6 +33,10 @@ pub use entry::AskedEntry;
 pub use entry::AskedQuantity;
 pub use entry::Entry;
 pub use entry::Says;
+pub use group::GroupAnswer;
+pub use group::GroupReading;
+pub use group::group_of;
+pub use group::groups_of;
 pub use index::Index;
 pub use layout::Refusal;
 use layout::Verdict;
@@ -93,20 +98,6 @@ pub enum Answer {
 // What a body reads as, with its texts; a refusal has none.
 pub struct Reading {
     pub answer: Answer,
-    pub texts: Texts,
-}
-
-// Group i of a body.
-pub enum Group {
-    Stream(Stream),
-    Switch(Switch),
-    NoSuchEntry,
-    Refused(Refusal),
-}
-
-// A group with its texts.
-pub struct AskedGroup {
-    pub group: Group,
     pub texts: Texts,
 }
 

@@ -4,13 +4,18 @@ ghost use Rattle.layout.specs.Layout.{fields, ranges};
 ghost use Rattle.layout.specs.Layout as of;
 ghost use Rattle.layout.specs.Group.{judged};
 ghost use Rattle.layout.specs.Paper as layout_paper;
-ghost use Rattle.record.specs.Paper.{paper};
-ghost use Rattle.record.specs.Record.{readAs};
+ghost use Rattle.record.specs.Paper.{paper, paperGroup};
+ghost use Rattle.record.specs.Record.{groupAs, readAs};
+ghost use Rattle.wire.specs.Answer.{accepted};
 use crate::Answer;
 use crate::Reading;
 use crate::Record;
+use crate::group::GroupAnswer;
+use crate::group::GroupReading;
+use crate::group::no_group;
 use crate::refused;
 use crate::texts::gather;
+use crate::texts::no_texts;
 use layout::Groups;
 use layout::Refusal;
 use layout::Verdict;
@@ -61,5 +66,25 @@ pub(crate) fn read(body: &[u8]) -> Reading
             }
         }
         Verdict::Refused(x) => refused(x),
+    }
+}
+
+// Group i of a body that is accepted.
+pub(crate) fn switch_of(body: &[u8], i: u32) -> GroupReading
+    requires { ⌜ judged of.securityStatus (now body) ≡ accepted tt ⌝ }
+    ensures { λ r. ⌜ paperGroup r ≡ groupAs of.securityStatus (now (body .entry)) i ⌝ }
+{
+    if i < wire::be4(body, 30) {
+        let at = 34 + 4 * (i as usize);
+        let switch = Switch {
+            switch_type: wire::be2(body, at),
+            yes_no: wire::be2(body, at + 2),
+        };
+        GroupReading {
+            answer: GroupAnswer::Switch(switch),
+            texts: no_texts(),
+        }
+    } else {
+        no_group()
     }
 }

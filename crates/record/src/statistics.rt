@@ -4,12 +4,17 @@ ghost use Rattle.layout.specs.Layout.{fields, ranges};
 ghost use Rattle.layout.specs.Layout as of;
 ghost use Rattle.layout.specs.Group.{judged};
 ghost use Rattle.layout.specs.Paper as layout_paper;
-ghost use Rattle.record.specs.Paper.{paper};
-ghost use Rattle.record.specs.Record.{readAs};
+ghost use Rattle.record.specs.Paper.{paper, paperGroup};
+ghost use Rattle.record.specs.Record.{groupAs, readAs};
+ghost use Rattle.wire.specs.Answer.{accepted};
 use crate::Answer;
 use crate::Reading;
 use crate::Record;
+use crate::group::GroupAnswer;
+use crate::group::GroupReading;
+use crate::group::no_group;
 use crate::refused;
+use crate::texts::gather;
 use crate::texts::no_texts;
 use layout::Groups;
 use layout::Refusal;
@@ -60,5 +65,24 @@ pub(crate) fn read(body: &[u8]) -> Reading
             }
         }
         Verdict::Refused(x) => refused(x),
+    }
+}
+
+// Group i of a body that is accepted.
+pub(crate) fn stream_of(body: &[u8], i: u32) -> GroupReading
+    requires { ⌜ judged of.statistics (now body) ≡ accepted tt ⌝ }
+    ensures { λ r. ⌜ paperGroup r ≡ groupAs of.statistics (now (body .entry)) i ⌝ }
+{
+    if i < wire::be4(body, 10) {
+        let at = 14 + 15 * (i as usize);
+        let stream = Stream {
+            stock_number: wire::be4(body, at + 3),
+        };
+        GroupReading {
+            answer: GroupAnswer::Stream(stream),
+            texts: gather(body, at, 3, at + 7, 8),
+        }
+    } else {
+        no_group()
     }
 }

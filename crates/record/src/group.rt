@@ -1,0 +1,95 @@
+// The groups of a body: by position, and all of them as a part of it.
+ghost use mathlib.Core.Path.{_≡_};
+ghost use mathlib.Core.Bool.{true};
+ghost use mathlib.Core.List.{[]};
+ghost use Prim.Native.Nat.{_-_, _≤_};
+ghost use lib.ListN.{length};
+ghost use Rattle.wire.specs.Answer.{accepted, refused};
+ghost use Rattle.wire.specs.Bytes.{beAt, part};
+ghost use Rattle.layout.specs.Group.{fit, place};
+ghost use Rattle.layout.specs.Paper as layout_paper;
+ghost use Rattle.record.specs.Asked.{told, noSuchEntry};
+ghost use Rattle.record.specs.Record.{groupAsked, groupsPart};
+ghost use Rattle.record.specs.Paper.{paperGroup};
+use crate::Record;
+use crate::judge;
+use crate::security_status::Switch;
+use crate::security_status::switch_of;
+use crate::statistics::Stream;
+use crate::statistics::stream_of;
+use crate::texts::Texts;
+use crate::texts::no_texts;
+use layout::Groups;
+use layout::Refusal;
+use layout::Verdict;
+
+// Group i of a 390090 or a 390013.
+pub enum GroupAnswer {
+    Stream(Stream),
+    Switch(Switch),
+    NoSuchEntry,
+    Refused(Refusal),
+}
+
+// A group with its texts; a refusal and "no such entry" have none.
+pub struct GroupReading {
+    pub answer: GroupAnswer,
+    pub texts: Texts,
+}
+
+pub(crate) fn no_group() -> GroupReading
+    ensures { λ r. ⌜ paperGroup r ≡ told (accepted noSuchEntry) [] ⌝ }
+{
+    GroupReading {
+        answer: GroupAnswer::NoSuchEntry,
+        texts: no_texts(),
+    }
+}
+
+fn refused_group(x: Refusal) -> GroupReading
+    ensures { λ r. ⌜ paperGroup r ≡ told (refused (layout_paper.refusal x) []) [] ⌝ }
+{
+    GroupReading {
+        answer: GroupAnswer::Refused(x),
+        texts: no_texts(),
+    }
+}
+
+// Group i, from 0; "no such entry" where it is not below the count, and for a type without groups.
+pub fn group_of(kind: u32, body: &[u8], i: u32) -> GroupReading
+    ensures { λ r. ⌜ paperGroup r ≡ groupAsked kind (now (body .entry)) i ⌝ }
+{
+    match judge(kind, body) {
+        Verdict::Accepted => match kind {
+            Record::STATISTICS => stream_of(body, i),
+            Record::SECURITY_STATUS => switch_of(body, i),
+            _ => no_group(),
+        },
+        Verdict::Refused(x) => refused_group(x),
+    }
+}
+
+// The groups behind the first end bytes, as many as the last four of these say, all of which are there.
+fn behind(g: Groups, body: &[u8], end: usize) -> &[u8]
+    requires { ⌜ ((4 ≤ end) × (end ≤ length (now body))) × (fit (layout_paper.meant g) (now body) end (beAt (now body) (end - 4) 4) ≡ true) ⌝ }
+    ensures { λ r. ⌜ now r ≡ part end (place (layout_paper.meant g) (now (body .entry)) end (beAt (now (body .entry)) (end - 4) 4)) (now (body .entry)) ⌝ }
+{
+    let e = layout::place(g, body, end, wire::be4(body, end - 4));
+    &body[end..e]
+}
+
+// The groups or entries of a body as a part of it, without the tail; the empty part where there are none, or the body is refused.
+pub fn groups_of(kind: u32, body: &[u8]) -> &[u8]
+    ensures { λ r. ⌜ now r ≡ groupsPart kind (now (body .entry)) ⌝ }
+{
+    match judge(kind, body) {
+        Verdict::Accepted => match kind {
+            Record::STATISTICS => behind(Groups::Streams, body, 14),
+            Record::SECURITY_STATUS => behind(Groups::Switches, body, 34),
+            Record::SNAPSHOT => behind(Groups::SnapshotEntries, body, 69),
+            Record::INDEX => behind(Groups::IndexEntries, body, 69),
+            _ => &body[0..0],
+        },
+        Verdict::Refused(_) => &body[0..0],
+    }
+}
