@@ -1,6 +1,6 @@
 -- What a body tells, by how it was judged.
 -- Assumes nothing.
-use Prim.Native.Nat.{ℕ, _<_, _≤_, _^_}
+use Prim.Native.Nat.{ℕ, _+_, _<_, _≤_, _^_}
 use mathlib.Core.Path.{_≡_, refl, ap, sym, _∙_}
 use mathlib.Core.Bool.{Bool, true, and-true}
 use mathlib.Core.List.{List, [], _∷_, _++_}
@@ -12,13 +12,20 @@ use mir.Syntax.{w64}
 use mir.Val.{toZ, ofZ}
 use mir.Facts.{toZ-ofZ}
 use Rattle.wire.specs.Answer.{Answer, accepted, refused, guard}
+use Rattle.wire.specs.Bytes.{part}
+use Rattle.frame.specs.Framing as framing-of
+use Rattle.frame.specs.Framing.{headerWidth, bodyLimit, framing}
+use Rattle.frame.specs.declared.Frame.{Frame}
+use Rattle.frame.specs.declared.Framed.{Framed}
 use Rattle.layout.specs.Kind.{Kind, ranged}
 use Rattle.layout.specs.Layout.{Message, heartbeat, fields, commonPart, size, ranges, values, texts}
 use Rattle.layout.specs.Group.{fit, groupRanges, judged}
 use Rattle.layout.specs.Paper as layout-paper
 use Rattle.layout.specs.declared.group.Verdict.{Verdict}
 use Rattle.record.specs.Asked.{Told, told, filled}
-use Rattle.record.specs.Record.{Reading, known, readAs}
+use Rattle.record.specs.Record.{Reading, known, readAs, reading, frameReading}
+use Rattle.record.specs.Paper.{paperAnswer}
+use Rattle.record.specs.declared.Answer as code-answer
 
 -- a signed number that passed through a field
 pub kept : {z y : ℤ} → mag z < 2 ^ 63 → z ≡ y → toZ w64 (ofZ w64 z) ≡ y
@@ -52,3 +59,21 @@ alive s = rw (leb·zero (length s))
 pub common-and : (k : Kind) → ((v : ℕ) → ranged k v ≡ true) → (s : List ℕ) → ranges commonPart s 0 ≡ ranges (commonPart ++ (k ∷ [])) s 0
 unfolding ranges
 common-and k h s = simp (h, and-true)
+
+-- ---- a frame's bytes
+
+-- what the code found in them is the paper's
+pub framed-by : {v w : Framed} {a : Answer Frame} → v ≡ w → framing-of.paper v ≡ a → a ≡ framing-of.paper w
+framed-by e f = sym f ∙ ap framing-of.paper e
+
+pub frame-whole : (s : List ℕ) (f : Frame) → framing headerWidth bodyLimit s ≡ accepted f → reading (f .kind) (part headerWidth (headerWidth + f .len) s) ≡ frameReading s
+unfolding frameReading
+frame-whole s f e = rw e
+
+pub frame-refused : (s : List ℕ) {n : ℕ} {vs : List ℕ} → framing headerWidth bodyLimit s ≡ refused n vs → told (refused n vs) [] ≡ frameReading s
+unfolding frameReading
+frame-refused s e = rw e
+
+-- an answer as it was found
+pub answered : {a b : code-answer.Answer} (t : List ℕ) (n : ℕ) → a ≡ b → with-texts (paperAnswer b) t n ≡ with-texts (paperAnswer a) t n
+answered t n e = λ i. record { answer = paperAnswer (sym e i); texts = t; used = n }

@@ -4,6 +4,7 @@ use Prim.Native.Nat.{ℕ}
 use mathlib.Core.List.{List, [], _∷_}
 use lib.IntN.{ℤ, pos}
 use Rattle.wire.specs.Answer.{Answer, accepted, refused}
+use Rattle.frame.specs.Framing as framing
 use Rattle.layout.specs.Kind.{Text, stream, security, source, phase, financialStatus, newsId, rejectText}
 use Rattle.layout.specs.Layout.{heartbeat, channelHeartbeat, resend, statistics, securityStatus, snapshot, index, volumeIndex, order, trade}
 use Rattle.layout.specs.Paper.{refusal}
@@ -16,6 +17,8 @@ use Rattle.record.specs.declared.common.Common.{Common}
 use Rattle.record.specs.declared.texts.Text as code-text
 use Rattle.record.specs.declared.Answer as code-answer
 use Rattle.record.specs.declared.Reading as code-reading
+use Rattle.record.specs.declared.framed.FrameAnswer as frame-answer
+use Rattle.record.specs.declared.framed.FrameReading as frame-reading
 use Rattle.record.specs.declared.group.GroupAnswer as code-group
 use Rattle.record.specs.declared.group.GroupReading as group-reading
 use Rattle.record.specs.declared.entry.Says as code-says
@@ -57,6 +60,15 @@ paperAnswer (code-answer.the-variants.Refused x) = refused (refusal x) []
 
 abbrev pub paper : code-reading.Reading → Told record-of.Reading
 paper r = record { answer = paperAnswer (r .answer); texts = r .texts .bytes; used = r .texts .length }
+
+-- a frame's bytes: 1 to 3 are the frame's refusals, 4 and 5 the body's
+abbrev pub frameAnswer : frame-answer.FrameAnswer → Answer record-of.Reading
+frameAnswer (frame-answer.the-variants.Read r) = accepted (paperRecord r)
+frameAnswer (frame-answer.the-variants.Frame x) = refused (framing.number x) (framing.values x)
+frameAnswer (frame-answer.the-variants.Body x) = refused (refusal x) []
+
+abbrev pub paperFrame : frame-reading.FrameReading → Told record-of.Reading
+paperFrame r = record { answer = frameAnswer (r .answer); texts = r .texts .bytes; used = r .texts .length }
 
 -- the text that the code means
 abbrev pub meant : code-text.Text → Text

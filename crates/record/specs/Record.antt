@@ -7,6 +7,8 @@ use lib.Dec.{eqb}
 use lib.IntN.{ℤ}
 use Rattle.wire.specs.Answer.{Answer, accepted, refused}
 use Rattle.wire.specs.Bytes.{part}
+use Rattle.frame.specs.Framing.{headerWidth, bodyLimit, framing, bodyOf}
+use Rattle.frame.specs.declared.Frame.{Frame}
 use Rattle.layout.specs.Kind.{Text}
 use Rattle.layout.specs.Layout.{Message, fields, Group, Behind, nothing, groups, entries, behind, Listed, listed, unlisted, named, values, texts, textIn}
 use Rattle.layout.specs.Group.{start, count, counted, place, group, judged}
@@ -29,6 +31,14 @@ readListed unlisted type s = told (accepted (unknown type)) []
 -- "The type number alone chooses the layout"
 unfoldable pub reading : ℕ → List ℕ → Told Reading
 reading type s = readListed (named type) type s
+
+-- the bytes of a frame: "the slice from place 8 to 8+L goes on to the record reader"; a refused frame has none
+abbrev pub frameRead : Answer Frame → List ℕ → Told Reading
+frameRead (accepted f) s = reading (f .kind) (bodyOf headerWidth (accepted f) s)
+frameRead (refused n vs) s = told (refused n vs) []
+
+unfoldable pub frameReading : List ℕ → Told Reading
+frameReading s = frameRead (framing headerWidth bodyLimit s) s
 
 -- whether a type is listed
 abbrev pub isListed : Listed → Bool
