@@ -2,3 +2,4 @@ pub mod Tell
 pub mod Gathered
 pub mod Choice
 pub mod Grouped
+pub mod Unique
