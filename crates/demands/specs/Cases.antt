@@ -3,19 +3,24 @@
 use Prim.Native.Nat.{ℕ}
 use mathlib.Core.Path.{_≡_}
 use mathlib.Core.List.{List, [], _∷_, _++_}
+use lib.IntN.{pos}
 use lib.ListN.{take, replicate}
 use Rattle.wire.specs.Answer.{Answer, accepted, refused}
-use Rattle.wire.specs.Refusal.{tooShort, tooLong, wrongSum}
+use Rattle.wire.specs.Refusal.{tooShort, tooLong, wrongSum, notItsLayout, outOfRange}
 use Rattle.frame.specs.Framing.{framing, headerWidth, bodyLimit}
 use Rattle.frame.specs.declared.Frame.{Frame}
+use Rattle.layout.specs.Layout as layout
+use Rattle.record.specs.Record.{Reading, known, frameReading}
 
 -- a case: what is handed in, and the answer that the document gives
 pub data Case : Type 0 where
   frame : List ℕ → Answer Frame → Case
+  record-of : List ℕ → Answer Reading → Case
 
 -- the definition that the promise of the call cites gives that answer
 abbrev pub Holds : Case → Type 0
 Holds (frame s a) = framing headerWidth bodyLimit s ≡ a
+Holds (record-of s a) = frameReading s .answer ≡ a
 
 -- the statement: each case of the table holds
 infixr 5 _and_
@@ -56,4 +61,8 @@ cases =
     ∷ frame (channelHeartbeat 0 0xBF) (whole 390095 12 24)
     ∷ frame (channelHeartbeat 2 0xC1) (whole 390095 12 24)
     ∷ frame elevenBytes (whole 390095 11 23)
+    ∷ record-of (heartbeat 0x00 0x03) (accepted (known layout.heartbeat []))
+    ∷ record-of (channelHeartbeat 0 0xBF) (accepted (known layout.channelHeartbeat (pos 2011 ∷ pos 10 ∷ pos 0 ∷ [])))
+    ∷ record-of (channelHeartbeat 2 0xC1) (refused outOfRange [])
+    ∷ record-of elevenBytes (refused notItsLayout [])
     ∷ []
