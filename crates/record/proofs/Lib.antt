@@ -3,3 +3,4 @@ pub mod Gathered
 pub mod Choice
 pub mod Grouped
 pub mod Unique
+pub mod Names
