@@ -26,7 +26,7 @@ pub struct ChannelHeartbeat {
 fn in_range(body: &[u8]) -> bool
     ensures { λ r. ⌜ r ≡ ranges (fields of.channelHeartbeat) (now (body .entry)) 0 ⌝ }
 {
-    natural(wire::be8(body, 2)) & (yes_no(wire::be2(body, 10)))
+    natural(wire::be8(body, 2)) & yes_no(wire::be2(body, 10))
 }
 
 // 4 where the body lacks bytes, else 5 where a field is out of range.

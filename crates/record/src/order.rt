@@ -38,7 +38,7 @@ fn in_range(body: &[u8]) -> bool
         & (price(wire::be8(body, 25))
             & (quantity(wire::be8(body, 33))
                 & (side(wire::be1(body, 41))
-                    & (time(wire::be8(body, 42)) & (order_type(wire::be1(body, 50)))))))
+                    & (time(wire::be8(body, 42)) & order_type(wire::be1(body, 50))))))
 }
 
 // 4 where the body lacks bytes, else 5 where a field is out of range.

@@ -31,7 +31,7 @@ fn in_range(body: &[u8]) -> bool
 {
     resend_type(wire::be1(body, 0))
         & (natural(wire::be8(body, 3))
-            & (natural(wire::be8(body, 11)) & (status(wire::be1(body, 27)))))
+            & (natural(wire::be8(body, 11)) & status(wire::be1(body, 27))))
 }
 
 // 4 where the body lacks bytes, else 5 where a field is out of range.

@@ -40,7 +40,7 @@ fn in_range(body: &[u8]) -> bool
             & (natural(wire::be8(body, 21))
                 & (price(wire::be8(body, 41))
                     & (quantity(wire::be8(body, 49))
-                        & (execution(wire::be1(body, 57)) & (time(wire::be8(body, 58))))))))
+                        & (execution(wire::be1(body, 57)) & time(wire::be8(body, 58)))))))
 }
 
 // 4 where the body lacks bytes, else 5 where a field is out of range.

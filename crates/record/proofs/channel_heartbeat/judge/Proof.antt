@@ -1,9 +1,9 @@
-use Rattle.layout.proofs.Walk.{judged-short, judged-long, judged-nothing}
-use Rattle.layout.specs.Group.{also}
-use Rattle.layout.specs.Layout.{channelHeartbeat, size}
 use borrow.Author.Needs.{needs}
 use denote.Ref.{now}
 use mathlib.Core.Path.{sym, _∙_}
+use Rattle.layout.proofs.Walk.{judged-short, judged-long, judged-nothing}
+use Rattle.layout.specs.Group.{also}
+use Rattle.layout.specs.Layout.{channelHeartbeat, size}
 use Rattle.record.proofs.channel_heartbeat.judge.Statement.{statement}
 use Rattle.record.proofs.channel_heartbeat.judge.Tie as tie
 

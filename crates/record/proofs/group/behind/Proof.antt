@@ -6,7 +6,7 @@ use native.Mathlib.Omega.{arith}
 use lib.ListN.{length}
 use Rattle.wire.specs.Bytes.{beAt, part}
 use Rattle.layout.specs.Paper as layout-paper
-use Rattle.layout.specs.Group.{fit, place, placeFrom}
+use Rattle.layout.specs.Group.{place, placeFrom}
 use Rattle.layout.proofs.Walk.{place-within, place-behind}
 use Rattle.record.proofs.group.behind.Statement.{statement}
 use Rattle.record.proofs.group.behind.Tie as tie

@@ -16,4 +16,12 @@ returns-2 c =
     group-texts-rest (g .kind) (meant (g .which)) (now (g .texts)) (c .before .match .rest .1)
 
 pub group-text-of-spec : {M : Type 1} → statement M
-group-text-of-spec = tie.close (tie.spec (λ c κs. search needs) (λ c. search needs) (λ c. search needs) (λ c. search needs) returns returns-2)
+group-text-of-spec =
+    tie.close
+    (tie.spec
+    (λ c κs. search needs)
+    (λ c. search needs)
+    (λ c. search needs)
+    (λ c. search needs)
+    returns
+    returns-2)

@@ -1,7 +1,7 @@
 use borrow.Author.Needs.{needs}
 use denote.Ref.{now}
 use mathlib.Core.Path.{ap, sym, _∙_}
-use lib.ListN.{take, drop}
+use lib.ListN.{take}
 use lib.Seq.{drop-drop}
 use Rattle.layout.specs.Layout.{textIn}
 use Rattle.record.proofs.named.order_text.Statement.{statement}

@@ -1,13 +1,13 @@
-use Rattle.layout.proofs.Walk.{has-all}
-use Rattle.layout.specs.Layout.{order, size, values, texts}
-use Rattle.record.proofs.Gathered.{order-texts}
-use Rattle.record.proofs.Tell.{kept, tell, refuse, found-by}
 use borrow.Author.Needs.{needs}
 use denote.Ref.{now}
 use lib.IntN.{pos}
 use mathlib.Core.List.{[], _∷_}
-use mathlib.Core.Path.{refl, _∙_}
+use mathlib.Core.Path.{_∙_}
 use native.Mathlib.Omega.{arith}
+use Rattle.layout.proofs.Walk.{has-all}
+use Rattle.layout.specs.Layout.{order, size, values}
+use Rattle.record.proofs.Gathered.{order-texts}
+use Rattle.record.proofs.Tell.{kept, tell, refuse, found-by}
 use Rattle.record.proofs.order.read.Statement.{statement}
 use Rattle.record.proofs.order.read.Tie as tie
 
@@ -23,7 +23,15 @@ unfolding values
 returns c =
     let s = now (c .before .before .before .before .before .before .before .before .before .before .before .before .args .body) in
     tell order s (found-by (c .before .before .before .before .before .before .before .before .enum-told .given .1) (c .before .before .before .before .before .before .before .before .before .before .judge .ensures))
-    (λ i. pos (c .before .before .before .before .before .before .before .be2 .ensures i) ∷ kept (c .before .before .before .before .before .before .i64-at .ok) (c .before .before .before .before .before .before .i64-at .ensures) i ∷ kept (c .before .before .before .before .before .i64-at2 .ok) (c .before .before .before .before .before .i64-at2 .ensures) i ∷ kept (c .before .before .before .before .i64-at3 .ok) (c .before .before .before .before .i64-at3 .ensures) i ∷ pos (c .before .before .before .be1 .ensures i) ∷ kept (c .before .before .i64-at4 .ok) (c .before .before .i64-at4 .ensures) i ∷ pos (c .before .be12 .ensures i) ∷ [])
+    (λ i.
+    pos (c .before .before .before .before .before .before .before .be2 .ensures i)
+    ∷ kept (c .before .before .before .before .before .before .i64-at .ok) (c .before .before .before .before .before .before .i64-at .ensures) i
+    ∷ kept (c .before .before .before .before .before .i64-at2 .ok) (c .before .before .before .before .before .i64-at2 .ensures) i
+    ∷ kept (c .before .before .before .before .i64-at3 .ok) (c .before .before .before .before .i64-at3 .ensures) i
+    ∷ pos (c .before .before .before .be1 .ensures i)
+    ∷ kept (c .before .before .i64-at4 .ok) (c .before .before .i64-at4 .ensures) i
+    ∷ pos (c .before .be12 .ensures i)
+    ∷ [])
     (order-texts s) (c .gather .ensures .0) (c .gather .ensures .1)
 
 returns-2 : tie.Need-returns-2
@@ -31,4 +39,20 @@ returns-2 c =
     c .refused .ensures ∙ refuse order (now (c .before .before .before .before .before .before .args .body)) (found-by (c .before .before .x .given .1) (c .before .before .before .before .judge .ensures))
 
 pub read-spec : {M : Type 1} → statement M
-read-spec = tie.close (tie.spec (λ c κs. search needs) (λ c. search needs) (λ c κs. search needs) (λ c κs. search needs) (λ c κs. search needs) (λ c κs. search needs) (λ c κs. search needs) (λ c κs. search needs) (λ c κs. search needs) gather-requires (λ c. search needs) (λ c κs. search needs) returns returns-2)
+read-spec =
+    tie.close
+    (tie.spec
+    (λ c κs. search needs)
+    (λ c. search needs)
+    (λ c κs. search needs)
+    (λ c κs. search needs)
+    (λ c κs. search needs)
+    (λ c κs. search needs)
+    (λ c κs. search needs)
+    (λ c κs. search needs)
+    (λ c κs. search needs)
+    gather-requires
+    (λ c. search needs)
+    (λ c κs. search needs)
+    returns
+    returns-2)

@@ -1,7 +1,6 @@
-use Prim.Native.Nat.{ℕ, _+_, _*_}
 use borrow.Author.Needs.{needs}
 use denote.Ref.{now}
-use mathlib.Core.Path.{_≡_, refl, sym, _∙_}
+use mathlib.Core.Path.{refl, _∙_}
 use mathlib.Core.List.{[], _∷_}
 use lib.IntN.{pos}
 use Rattle.layout.specs.Layout.{securityStatus, switches, size, values, texts}

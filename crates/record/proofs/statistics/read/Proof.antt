@@ -1,10 +1,10 @@
-use Rattle.layout.specs.Layout.{statistics, values, texts}
-use Rattle.record.proofs.Tell.{kept, tell, refuse, found-by}
 use borrow.Author.Needs.{needs}
 use denote.Ref.{now}
 use lib.IntN.{pos}
 use mathlib.Core.List.{[], _∷_}
 use mathlib.Core.Path.{refl, _∙_}
+use Rattle.layout.specs.Layout.{statistics, values, texts}
+use Rattle.record.proofs.Tell.{kept, tell, refuse, found-by}
 use Rattle.record.proofs.statistics.read.Statement.{statement}
 use Rattle.record.proofs.statistics.read.Tie as tie
 
@@ -13,7 +13,11 @@ unfolding values texts
 returns c =
     let s = now (c .before .before .before .before .before .before .before .before .args .body) in
     tell statistics s (found-by (c .before .before .before .before .enum-told .given .1) (c .before .before .before .before .before .before .judge .ensures))
-    (λ i. kept (c .before .before .before .i64-at .ok) (c .before .before .before .i64-at .ensures) i ∷ pos (c .before .before .be2 .ensures i) ∷ pos (c .before .be4 .ensures i) ∷ [])
+    (λ i.
+    kept (c .before .before .before .i64-at .ok) (c .before .before .before .i64-at .ensures) i
+    ∷ pos (c .before .before .be2 .ensures i)
+    ∷ pos (c .before .be4 .ensures i)
+    ∷ [])
     refl (c .no-texts .ensures .0) (c .no-texts .ensures .1)
 
 returns-2 : tie.Need-returns-2
@@ -21,4 +25,16 @@ returns-2 c =
     c .refused .ensures ∙ refuse statistics (now (c .before .before .before .before .before .before .args .body)) (found-by (c .before .before .x .given .1) (c .before .before .before .before .judge .ensures))
 
 pub read-spec : {M : Type 1} → statement M
-read-spec = tie.close (tie.spec (λ c κs. search needs) (λ c. search needs) (λ c κs. search needs) (λ c κs. search needs) (λ c κs. search needs) (λ c κs. search needs) (λ c. search needs) (λ c κs. search needs) returns returns-2)
+read-spec =
+    tie.close
+    (tie.spec
+    (λ c κs. search needs)
+    (λ c. search needs)
+    (λ c κs. search needs)
+    (λ c κs. search needs)
+    (λ c κs. search needs)
+    (λ c κs. search needs)
+    (λ c. search needs)
+    (λ c κs. search needs)
+    returns
+    returns-2)

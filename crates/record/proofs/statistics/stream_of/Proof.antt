@@ -1,12 +1,12 @@
-use Prim.Native.Nat.{ℕ, _+_, _*_, _≤_}
+use Prim.Native.Nat.{_+_, _*_, _≤_}
 use borrow.Author.Needs.{needs}
 use denote.Ref.{now}
-use mathlib.Core.Path.{_≡_, refl, ap, sym, _∙_}
+use mathlib.Core.Path.{_≡_, refl, _∙_}
 use mathlib.Core.List.{[], _∷_}
 use native.Mathlib.Omega.{arith}
 use lib.IntN.{pos}
 use lib.ListN.{length}
-use Rattle.layout.specs.Layout.{statistics, streams, size, values, texts}
+use Rattle.layout.specs.Layout.{statistics, streams, size, values}
 use Rattle.layout.specs.Group.{place}
 use Rattle.layout.proofs.Walk.{place-flat}
 use Rattle.record.proofs.Gathered.{stream-texts}

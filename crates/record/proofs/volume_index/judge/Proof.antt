@@ -1,12 +1,12 @@
+use borrow.Author.Needs.{needs}
+use denote.Ref.{now}
+use mathlib.Core.Path.{sym, _∙_}
 use Rattle.layout.proofs.Free.{free-stock-number}
 use Rattle.layout.proofs.Walk.{judged-short, judged-long, judged-nothing}
 use Rattle.layout.specs.Group.{also}
 use Rattle.layout.specs.Kind.{stockNumber}
 use Rattle.layout.specs.Layout.{volumeIndex, size}
 use Rattle.record.proofs.Tell.{common-and}
-use borrow.Author.Needs.{needs}
-use denote.Ref.{now}
-use mathlib.Core.Path.{sym, _∙_}
 use Rattle.record.proofs.volume_index.judge.Statement.{statement}
 use Rattle.record.proofs.volume_index.judge.Tie as tie
 
