@@ -4,3 +4,4 @@ pub mod Choice
 pub mod Grouped
 pub mod Unique
 pub mod Names
+pub mod Says

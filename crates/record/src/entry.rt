@@ -1,4 +1,13 @@
-// Entries by position.
+// What an entry says.
+ghost use mathlib.Core.Path.{_≡_};
+ghost use mathlib.Core.Bool.{cond};
+ghost use mathlib.Core.List.{[], _∷_};
+ghost use lib.IntN.{pos};
+ghost use Rattle.layout.specs.Kind.{among};
+ghost use Rattle.layout.specs.Layout.{ofSnapshot, ofIndex};
+ghost use Rattle.record.specs.Entry.{levels, prices, boths, indexPrices, same, saysIn, entryAt};
+ghost use Rattle.record.specs.Entry as of;
+ghost use Rattle.record.specs.Paper.{paperSays, paperEntry};
 use crate::Refusal;
 
 // What an entry says: exactly one of seven things.
@@ -48,4 +57,143 @@ pub enum AskedQuantity {
     Found(i64),
     NoSuchEntry,
     Refused(Refusal),
+}
+
+// Which type characters are a level, a price, price and size; and a price in an index.
+fn is_level(characters: u16) -> bool
+    ensures { λ r. ⌜ r ≡ among levels characters ⌝ }
+{
+    (characters == 0x3020) | (characters == 0x3120)
+}
+
+fn is_price(characters: u16) -> bool
+    ensures { λ r. ⌜ r ≡ among prices characters ⌝ }
+{
+    (characters == 0x3220)
+        | ((characters == 0x3420)
+            | ((characters == 0x3720)
+                | ((characters == 0x3820)
+                    | ((characters == 0x3920)
+                        | ((characters == 0x7831)
+                            | ((characters == 0x7832)
+                                | ((characters == 0x7835)
+                                    | ((characters == 0x7836)
+                                        | ((characters == 0x7837)
+                                            | ((characters == 0x7838)
+                                                | ((characters == 0x7839)
+                                                    | ((characters == 0x786a)
+                                                        | (characters == 0x786b)))))))))))))
+}
+
+fn is_both(characters: u16) -> bool
+    ensures { λ r. ⌜ r ≡ among boths characters ⌝ }
+{
+    (characters == 0x7833) | (characters == 0x7834)
+}
+
+fn is_index_price(characters: u16) -> bool
+    ensures { λ r. ⌜ r ≡ among indexPrices characters ⌝ }
+{
+    (characters == 0x3320)
+        | ((characters == 0x7861)
+            | ((characters == 0x7862) | ((characters == 0x7863) | (characters == 0x7864))))
+}
+
+const XE: u16 = 0x7865;
+
+const XF: u16 = 0x7866;
+
+const XG: u16 = 0x7867;
+
+// The prices by which `xe` and `xf` say that there is no limit.
+const NO_UPPER_LIMIT: i64 = 9_999_999_999_999;
+
+const NO_LOWER_LIMIT: i64 = -9_999_999_999_999;
+
+// A price, unless it is the mark that there is no limit.
+fn limit(price: i64, mark: i64) -> Says
+    ensures { λ r. ⌜ paperSays r ≡ cond (same price mark) of.noLimit (of.price price) ⌝ }
+{
+    if price == mark {
+        Says::NoLimit
+    } else {
+        Says::Price { entry_price: price }
+    }
+}
+
+// What an entry of a snapshot says.
+fn said(characters: u16, price: i64, size: i64, level: u16, orders: i64, shown: u32) -> Says
+    ensures { λ r. ⌜ paperSays r ≡ saysIn ofSnapshot characters (pos characters ∷ price ∷ size ∷ pos level ∷ orders ∷ pos shown ∷ []) ⌝ }
+{
+    if is_level(characters) {
+        if price == 0 {
+            return Says::LevelWithoutPrice {
+                size,
+                level,
+                order_count: orders,
+                shown,
+            };
+        }
+        return Says::Level {
+            entry_price: price,
+            size,
+            level,
+            order_count: orders,
+            shown,
+        };
+    }
+    if is_price(characters) {
+        return Says::Price { entry_price: price };
+    }
+    if characters == XE {
+        return limit(price, NO_UPPER_LIMIT);
+    }
+    if characters == XF {
+        return limit(price, NO_LOWER_LIMIT);
+    }
+    if characters == XG {
+        return Says::Size { size };
+    }
+    if is_both(characters) {
+        return Says::Both {
+            entry_price: price,
+            size,
+        };
+    }
+    Says::Unknown
+}
+
+// What an entry of an index says.
+fn said_in_index(characters: u16, price: i64) -> Says
+    ensures { λ r. ⌜ paperSays r ≡ saysIn ofIndex characters (pos characters ∷ price ∷ []) ⌝ }
+{
+    if is_index_price(characters) {
+        Says::Price { entry_price: price }
+    } else {
+        Says::Unknown
+    }
+}
+
+// The entry of a snapshot, and of an index, that some bytes start with.
+fn snapshot_entry(e: &[u8]) -> Entry
+    ensures { λ r. ⌜ paperEntry r ≡ entryAt ofSnapshot (now (e .entry)) 0 ⌝ }
+{
+    let characters = wire::be2(e, 0);
+    let says = said(
+        characters,
+        wire::i64_at(e, 2),
+        wire::i64_at(e, 10),
+        wire::be2(e, 18),
+        wire::i64_at(e, 20),
+        wire::be4(e, 28),
+    );
+    Entry { characters, says }
+}
+
+fn index_entry(e: &[u8]) -> Entry
+    ensures { λ r. ⌜ paperEntry r ≡ entryAt ofIndex (now (e .entry)) 0 ⌝ }
+{
+    let characters = wire::be2(e, 0);
+    let says = said_in_index(characters, wire::i64_at(e, 2));
+    Entry { characters, says }
 }
