@@ -192,15 +192,19 @@ pub record At : Type 0 where
   pub place : ℕ
   pub left : ℕ
 
+-- a type without entries, or an unknown type, has none left
+abbrev pub atNone : At
+atNone = record { place = 0; left = 0 }
+
 -- before the first entry
 abbrev pub startIn : Behind → ℕ → List ℕ → At
-startIn nothing end s = record { place = end; left = 0 }
-startIn (groups g) end s = record { place = end; left = 0 }
+startIn nothing end s = atNone
+startIn (groups g) end s = atNone
 startIn (entries e) end s = record { place = end; left = counted (entries e) end s }
 
 unfoldable pub startOf : Listed → List ℕ → At
 startOf (listed m) s = startIn (behind m) (start m) s
-startOf unlisted s = record { place = 0; left = 0 }
+startOf unlisted s = atNone
 
 -- an entry, and the cursor behind it
 pub record Stepped : Type 0 where
