@@ -5,3 +5,4 @@ pub mod Grouped
 pub mod Unique
 pub mod Names
 pub mod Says
+pub mod Entries

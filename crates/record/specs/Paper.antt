@@ -6,7 +6,7 @@ use lib.IntN.{ℤ, pos}
 use Rattle.wire.specs.Answer.{Answer, accepted, refused}
 use Rattle.frame.specs.Framing as framing
 use Rattle.layout.specs.Kind.{Text, stream, security, source, phase, financialStatus, newsId, rejectText}
-use Rattle.layout.specs.Layout.{heartbeat, channelHeartbeat, resend, statistics, securityStatus, snapshot, index, volumeIndex, order, trade}
+use Rattle.layout.specs.Layout.{heartbeat, channelHeartbeat, resend, statistics, securityStatus, snapshot, index, volumeIndex, order, trade, Entries, ofSnapshot, ofIndex}
 use Rattle.layout.specs.Paper.{refusal}
 use Rattle.record.specs.Asked.{Told, Asked, found, noSuchEntry}
 use Rattle.record.specs.Entry.{Says, level, levelWithoutPrice, price, size, both, noLimit, unknown, Entry, At, Stepped}
@@ -21,6 +21,7 @@ use Rattle.record.specs.declared.framed.FrameAnswer as frame-answer
 use Rattle.record.specs.declared.framed.FrameReading as frame-reading
 use Rattle.record.specs.declared.group.GroupAnswer as code-group
 use Rattle.record.specs.declared.group.GroupReading as group-reading
+use Rattle.record.specs.declared.entry.Entries as code-entries
 use Rattle.record.specs.declared.entry.Says as code-says
 use Rattle.record.specs.declared.entry.Entry as code-entry
 use Rattle.record.specs.declared.entry.AskedEntry as asked-entry
@@ -92,6 +93,11 @@ abbrev pub paperGroup : group-reading.GroupReading → Told (Asked (List ℤ))
 paperGroup r = record { answer = groupAnswer (r .answer); texts = r .texts .bytes; used = r .texts .length }
 
 -- ---- entries
+
+-- whose entries the code means
+abbrev pub whose : code-entries.Entries → Entries
+whose code-entries.the-variants.OfSnapshot = ofSnapshot
+whose code-entries.the-variants.OfIndex = ofIndex
 
 abbrev pub paperSays : code-says.Says → Says
 paperSays (code-says.the-variants.Level p z l o n) = level p z (pos l) o (pos n)

@@ -1,6 +1,16 @@
 // A cursor over the entries of a body.
+ghost use mathlib.Core.Path.{_≡_};
+ghost use Rattle.layout.specs.Layout.{entries, named};
+ghost use Rattle.record.specs.Entry.{startOf, stepIn, stepOf};
+ghost use Rattle.record.specs.Paper.{whose, paperCursor, paperStep};
 use crate::Entry;
+use crate::Record;
 use crate::Refusal;
+use crate::entry::Entries;
+use crate::entry::behind;
+use crate::entry::entry_at;
+use crate::entry::groups;
+use layout::Verdict;
 
 // The place of the next entry, and how many are left.
 pub struct Cursor {
@@ -13,4 +23,54 @@ pub enum Step {
     Found(Entry, Cursor),
     NoSuchEntry,
     Refused(Refusal),
+}
+
+fn step_in(e: Entries, body: &[u8], place: usize, left: u32) -> Step
+    ensures { λ r. ⌜ paperStep r ≡ stepIn (entries (whose e)) (now (body .entry)) (record { place = place; left = left }) ⌝ }
+{
+    if left == 0 {
+        return Step::NoSuchEntry;
+    }
+    match layout::judge(groups(e), body, place, 1) {
+        Verdict::Accepted => Step::Found(
+            entry_at(e, body, place),
+            Cursor {
+                place: behind(e, body, place),
+                left: left - 1,
+            },
+        ),
+        Verdict::Refused(x) => Step::Refused(x),
+    }
+}
+
+impl Cursor {
+    // The cursor before the first entry of a body; of a type without entries none is left.
+    pub fn start(kind: u32, body: &[u8]) -> Cursor
+        ensures { λ r. ⌜ paperCursor r ≡ startOf (named kind) (now (body .entry)) ⌝ }
+    {
+        match kind {
+            Record::SNAPSHOT => Cursor {
+                place: 69,
+                left: wire::be4(body, 65),
+            },
+            Record::INDEX => Cursor {
+                place: 69,
+                left: wire::be4(body, 65),
+            },
+            _ => Cursor { place: 0, left: 0 },
+        }
+    }
+
+    // The entry at the cursor, after 4 and 5 for its own fields and shown quantities.
+    pub fn step(self, kind: u32, body: &[u8]) -> Step
+        ensures { λ r. ⌜ paperStep r ≡ stepOf (named kind) (now (body .entry)) (paperCursor self) ⌝ }
+    {
+        let place = self.place;
+        let left = self.left;
+        match kind {
+            Record::SNAPSHOT => step_in(Entries::OfSnapshot, body, place, left),
+            Record::INDEX => step_in(Entries::OfIndex, body, place, left),
+            _ => Step::NoSuchEntry,
+        }
+    }
 }

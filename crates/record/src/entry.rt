@@ -1,14 +1,24 @@
 // What an entry says.
 ghost use mathlib.Core.Path.{_≡_};
-ghost use mathlib.Core.Bool.{cond};
+ghost use mathlib.Core.Bool.{true, cond};
 ghost use mathlib.Core.List.{[], _∷_};
 ghost use lib.IntN.{pos};
+ghost use Rattle.wire.specs.Answer.{accepted};
 ghost use Rattle.layout.specs.Kind.{among};
-ghost use Rattle.layout.specs.Layout.{ofSnapshot, ofIndex};
-ghost use Rattle.record.specs.Entry.{levels, prices, boths, indexPrices, same, saysIn, entryAt};
+ghost use Rattle.layout.specs.Layout.{ofSnapshot, ofIndex, entryGroup};
+ghost use Rattle.layout.specs.Group.{fit, next};
+ghost use Rattle.layout.specs.Paper.{meant};
+ghost use Rattle.record.specs.Entry.{levels, prices, boths, indexPrices, same, saysIn, entryAt, quantityAt};
 ghost use Rattle.record.specs.Entry as of;
-ghost use Rattle.record.specs.Paper.{paperSays, paperEntry};
+ghost use Rattle.record.specs.Paper.{whose, paperSays, paperEntry, paperQuantity};
 use crate::Refusal;
+use layout::Groups;
+
+// Whose entries: a snapshot's, or an index's.
+pub enum Entries {
+    OfSnapshot,
+    OfIndex,
+}
 
 // What an entry says: exactly one of seven things.
 pub enum Says {
@@ -196,4 +206,63 @@ fn index_entry(e: &[u8]) -> Entry
     let characters = wire::be2(e, 0);
     let says = said_in_index(characters, wire::i64_at(e, 2));
     Entry { characters, says }
+}
+
+// The groups that entries are.
+pub(crate) fn groups(e: Entries) -> Groups
+    ensures { λ r. ⌜ meant r ≡ entryGroup (whose e) ⌝ }
+{
+    match e {
+        Entries::OfSnapshot => Groups::SnapshotEntries,
+        Entries::OfIndex => Groups::IndexEntries,
+    }
+}
+
+// The entry at a place that has one.
+pub(crate) fn entry_at(e: Entries, s: &[u8], p: usize) -> Entry
+    requires { ⌜ fit (entryGroup (whose e)) (now s) p 1 ≡ true ⌝ }
+    ensures { λ r. ⌜ paperEntry r ≡ entryAt (whose e) (now (s .entry)) p ⌝ }
+{
+    match e {
+        Entries::OfSnapshot => {
+            let q = p + 32;
+            snapshot_entry(&s[p..q])
+        }
+        Entries::OfIndex => {
+            let q = p + 10;
+            index_entry(&s[p..q])
+        }
+    }
+}
+
+// The place behind an entry and its shown quantities.
+pub(crate) fn behind(e: Entries, s: &[u8], p: usize) -> usize
+    requires { ⌜ fit (entryGroup (whose e)) (now s) p 1 ≡ true ⌝ }
+    ensures { λ r. ⌜ r ≡ next (entryGroup (whose e)) (now (s .entry)) p ⌝ }
+{
+    match e {
+        Entries::OfSnapshot => {
+            let q = p + 32;
+            let e = &s[p..q];
+            q + 8 * (wire::be4(e, 28) as usize)
+        }
+        Entries::OfIndex => p + 10,
+    }
+}
+
+// Quantity j of those that the entry at a place shows.
+fn quantity_at(e: Entries, s: &[u8], p: usize, j: u32) -> AskedQuantity
+    requires { ⌜ fit (entryGroup (whose e)) (now s) p 1 ≡ true ⌝ }
+    ensures { λ r. ⌜ paperQuantity r ≡ accepted (quantityAt (entryGroup (whose e)) (now (s .entry)) p j) ⌝ }
+{
+    match e {
+        Entries::OfSnapshot => {
+            if j < wire::be4(s, p + 28) {
+                AskedQuantity::Found(wire::i64_at(s, p + 32 + 8 * (j as usize)))
+            } else {
+                AskedQuantity::NoSuchEntry
+            }
+        }
+        Entries::OfIndex => AskedQuantity::NoSuchEntry,
+    }
 }
