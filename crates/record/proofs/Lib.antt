@@ -6,3 +6,5 @@ pub mod Unique
 pub mod Names
 pub mod Says
 pub mod Entries
+pub mod Steps
+pub mod EntryAnswers

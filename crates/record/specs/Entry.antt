@@ -1,7 +1,7 @@
 -- Document 01, "What an entry says".
 -- Entries by position, shown quantities and the cursor are defined here over layout's place, shown and judgedFrom.
 -- Assumes nothing.
-use Prim.Native.Nat.{ℕ, _+_, _-_, _*_}
+use Prim.Native.Nat.{ℕ, zero, suc, _+_, _-_, _*_}
 use mathlib.Core.Bool.{Bool, true, false, cond}
 use mathlib.Core.List.{List, [], _∷_}
 use lib.Dec.{eqb}
@@ -229,3 +229,22 @@ stepIn (entries e) s c =
 unfoldable pub stepOf : Listed → List ℕ → At → Answer (Asked Stepped)
 stepOf (listed m) s c = stepIn (behind m) s c
 stepOf unlisted s c = accepted noSuchEntry
+
+-- ---- step after step
+
+-- from what a step answers on to the cursor behind its entry, if it found one
+abbrev pub onFrom : Answer (Asked Stepped) → (At → Answer (Asked Stepped)) → Answer (Asked Stepped)
+onFrom (accepted (found x)) go = go (x .onward)
+onFrom (accepted noSuchEntry) go = accepted noSuchEntry
+onFrom (refused n vs) go = refused n vs
+
+-- step i from a cursor on, from 0
+unfoldable pub stepAfter : Listed → List ℕ → ℕ → At → Answer (Asked Stepped)
+stepAfter l s zero c = stepOf l s c
+stepAfter l s (suc i) c = onFrom (stepOf l s c) (stepAfter l s i)
+
+-- the entry that a step answers, without the cursor
+abbrev pub entryFound : Answer (Asked Stepped) → Answer (Asked Entry)
+entryFound (accepted (found x)) = accepted (found (x .entry))
+entryFound (accepted noSuchEntry) = accepted noSuchEntry
+entryFound (refused n vs) = refused n vs
