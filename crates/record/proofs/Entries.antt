@@ -2,11 +2,11 @@
 -- Assumes nothing.
 use Prim.Native.Nat.{ℕ, zero, suc, _+_, _-_, _*_, _<_, _≤_, zero-le}
 use mathlib.Core.Path.{_≡_, refl, ap, sym, _∙_}
-use mathlib.Core.Bool.{Bool, true, false, cond}
+use mathlib.Core.Bool.{Bool, true, false, cond, _&&_}
 use mathlib.Core.List.{List, [], _∷_, _++_}
 use native.Mathlib.Omega.{arith}
 use borrow.Author.Tests.{eq-eqb, ne-eqb, eqb-true, lt-ltb, le-ltb}
-use lib.Dec.{eqb, lit<}
+use lib.Dec.{leb, eqb, lit<}
 use lib.ListN.{length, take, drop}
 use mir.Syntax.{w64}
 use mir.Val.{toZ}
@@ -14,21 +14,14 @@ use Rattle.wire.specs.Answer.{accepted, refused, guard, andThen}
 use Rattle.wire.specs.Bytes.{beAt, part}
 use Rattle.wire.proofs.Be.{beAt-part, beAt-here}
 use Rattle.layout.specs.Kind.{Kind, Form, unsigned, signed, written, form, bytes, width}
-use Rattle.layout.specs.Layout.{Message, heartbeat, channelHeartbeat, resend, statistics, securityStatus, snapshot, index, volumeIndex, order, trade, typeNumber, Listed, listed, unlisted, named, Group, streams, switches, Behind, nothing, groups, entries, behind, Entries, ofSnapshot, ofIndex, entryGroup, snapshotEntries, indexEntries, size, values, valueAt}
-use Rattle.layout.specs.Group.{shown, shownPlace, next, fit, groupRanges, judgedFrom}
-use Rattle.layout.proofs.Walk.{Ahead, ahead, good}
-use Rattle.record.specs.Asked.{found, noSuchEntry}
-use Rattle.record.specs.Entry.{At, entryAt, atNone, startOf, stepIn, stepOf, entryOf, quantityAt, quantityOf}
+use Rattle.layout.specs.Layout.{Message, heartbeat, channelHeartbeat, resend, statistics, securityStatus, snapshot, index, volumeIndex, order, trade, typeNumber, fields, Listed, listed, unlisted, named, Group, streams, switches, Behind, nothing, groups, entries, behind, Entries, ofSnapshot, ofIndex, entryGroup, snapshotEntries, indexEntries, size, ranges, values, valueAt}
+use Rattle.layout.specs.Group.{shown, shownPlace, next, place, placeFrom, fit, groupRanges, judgedFrom, group, start, count, whole, inRange, judged}
+use Rattle.layout.proofs.Walk.{Ahead, ahead, and-both, fit-fewer, fit-there, Good, good}
+use Rattle.record.proofs.Choice.{named-as, named-back}
+use Rattle.record.specs.Asked.{found, noSuchEntry, judging}
+use Rattle.record.specs.Entry.{At, entryAt, atNone, startOf, stepIn, stepOf, entryOf, entryAsked, quantityAt, quantityOf, quantityAsked}
 
 -- ---- the types with entries, and those without
-
-pub named-snapshot : {type : ℕ} → type ≡ 300111 → named type ≡ listed snapshot
-unfolding named
-named-snapshot e = rw e
-
-pub named-index : {type : ℕ} → type ≡ 309011 → named type ≡ listed index
-unfolding named
-named-index e = rw e
 
 -- "a type without them, or an unknown type"
 pub data NoEntries : Listed → Type 0 where
@@ -36,25 +29,21 @@ pub data NoEntries : Listed → Type 0 where
   grouped : {m : Message} (g : Group) → behind m ≡ groups g → NoEntries (listed m)
   unknown : NoEntries unlisted
 
-unless-by : (b : Bool) (type : ℕ) (m : Message) (r : Listed) → eqb type (typeNumber m) ≡ b → (type ≡ typeNumber m → NoEntries (listed m)) → NoEntries r → NoEntries (cond b (listed m) r)
-unless-by true type m r e f n = f (eqb-true _ _ e)
-unless-by false type m r e f n = n
-
-unless : (type : ℕ) (m : Message) (r : Listed) → (type ≡ typeNumber m → NoEntries (listed m)) → NoEntries r → NoEntries (cond (eqb type (typeNumber m)) (listed m) r)
-unless type m r f n = unless-by (eqb type (typeNumber m)) type m r refl f n
+no-entries-by : (type : ℕ) (l : Listed) → named type ≡ l → (type ≡ 300111 → ⊥) → (type ≡ 309011 → ⊥) → NoEntries l
+no-entries-by type (listed heartbeat) e s i = bare refl
+no-entries-by type (listed channelHeartbeat) e s i = bare refl
+no-entries-by type (listed resend) e s i = bare refl
+no-entries-by type (listed statistics) e s i = grouped streams refl
+no-entries-by type (listed securityStatus) e s i = grouped switches refl
+no-entries-by type (listed snapshot) e s i = absurd (s (named-back snapshot type e))
+no-entries-by type (listed index) e s i = absurd (i (named-back index type e))
+no-entries-by type (listed volumeIndex) e s i = bare refl
+no-entries-by type (listed order) e s i = bare refl
+no-entries-by type (listed trade) e s i = bare refl
+no-entries-by type unlisted e s i = unknown
 
 pub no-entries : (type : ℕ) → (type ≡ 300111 → ⊥) → (type ≡ 309011 → ⊥) → NoEntries (named type)
-unfolding named
-no-entries t s i =
-    unless t heartbeat _ (λ e. bare refl)
-    (unless t channelHeartbeat _ (λ e. bare refl)
-    (unless t resend _ (λ e. bare refl)
-    (unless t statistics _ (λ e. grouped streams refl)
-    (unless t securityStatus _ (λ e. grouped switches refl)
-    (unless t snapshot _ (λ e. absurd (s e))
-    (unless t index _ (λ e. absurd (i e))
-    (unless t volumeIndex _ (λ e. bare refl)
-    (unless t order _ (λ e. bare refl) (unless t trade _ (λ e. bare refl) unknown)))))))))
+no-entries type s i = no-entries-by type (named type) refl s i
 
 module _ (s : List ℕ) where
   pub no-start : {l : Listed} → NoEntries l → startOf l s ≡ atNone
@@ -133,6 +122,57 @@ index-entry s p e =
     let a : Ahead indexEntries s p 1 = ahead indexEntries s p 1 (lit< tt) e in
     record { fields = a .fixed; shows = refl; onward = omega arith }
 
+-- ---- the entries of a body that is accepted
+
+pub fits : (g : Group) (s : List ℕ) (p k : ℕ) → judgedFrom g s p k ≡ accepted tt → fit g s p k ≡ true
+unfolding judgedFrom
+fits g s p k j = good (fit g s p k) (groupRanges g s p k) j .all
+
+-- the groups of a body that is accepted
+pub groups-accepted : (m : Message) (s : List ℕ) → judged m s ≡ accepted tt → judgedFrom (group m) s (start m) (count m s) ≡ accepted tt
+unfolding judged judgedFrom guard
+groups-accepted m s j =
+    let a : Good (whole m s) (inRange m s) = good (whole m s) (inRange m s) j in
+    rw (and-both (leb (start m) (length s)) (fit (group m) s (start m) (count m s)) (a .all) .1, and-both (ranges (fields m) s 0) (groupRanges (group m) s (start m) (count m s)) (a .each) .1)
+
+pub snapshot-fits : (type : ℕ) (s : List ℕ) → type ≡ 300111 → judging type s ≡ accepted tt → fit snapshotEntries s 69 (beAt s 65 4) ≡ true
+unfolding size
+snapshot-fits type s e j = fits snapshotEntries s 69 (beAt s 65 4) (groups-accepted snapshot s (rw (named-as snapshot e) at j))
+
+pub index-fits : (type : ℕ) (s : List ℕ) → type ≡ 309011 → judging type s ≡ accepted tt → fit indexEntries s 69 (beAt s 65 4) ≡ true
+unfolding size
+index-fits type s e j = fits indexEntries s 69 (beAt s 65 4) (groups-accepted index s (rw (named-as index e) at j))
+
+-- where entry i stands, and that it is there
+pub record Placed (g : Group) (s : List ℕ) (at i p : ℕ) : Type 0 where
+  pub is : p ≡ place g s at i
+  pub there : fit g s p 1 ≡ true
+
+pub placed : (g : Group) (s : List ℕ) (at i k p : ℕ) → fit g s at k ≡ true → i < k → p ≡ placeFrom g s at i → Placed g s at i p
+unfolding placeFrom
+placed g s at i k p f h e =
+    let a : p ≡ place g s at i = e ∙ rw (fit-fewer g s at i k (omega arith) f) in
+    record { is = a; there = rw a (fit-fewer g s (place g s at i) 1 (k - i) (omega arith) (fit-there g s at i k h f)) }
+
+-- ---- asked for by position, after 4 and 5
+
+module _ (type : ℕ) (s : List ℕ) where
+  pub entry-refused : {n : ℕ} {vs : List ℕ} (i : ℕ) → judging type s ≡ refused n vs → entryAsked type s i ≡ refused n vs
+  unfolding entryAsked andThen
+  entry-refused i j = rw j
+
+  pub entry-accepted : (i : ℕ) → judging type s ≡ accepted tt → entryAsked type s i ≡ accepted (entryOf (named type) s i)
+  unfolding entryAsked andThen
+  entry-accepted i j = rw j
+
+  pub quantity-refused : {n : ℕ} {vs : List ℕ} (i j : ℕ) → judging type s ≡ refused n vs → quantityAsked type s i j ≡ refused n vs
+  unfolding quantityAsked andThen
+  quantity-refused i j r = rw r
+
+  pub quantity-accepted : (i j : ℕ) → judging type s ≡ accepted tt → quantityAsked type s i j ≡ accepted (quantityOf (named type) s i j)
+  unfolding quantityAsked andThen
+  quantity-accepted i j r = rw r
+
 -- ---- shown quantities
 
 pub quantity-found : {s : List ℕ} {p j : ℕ} → SnapshotEntry s p → j < beAt s (p + 28) 4 → accepted (quantityAt snapshotEntries s p j) ≡ accepted (found (toZ w64 (beAt s (p + 32 + 8 * j) 8)))
@@ -147,10 +187,6 @@ pub quantity-none : {s : List ℕ} {p : ℕ} (j : ℕ) → IndexEntry s p → ac
 quantity-none j n = rw (n .shows, le-ltb _ _ zero-le)
 
 -- ---- a step
-
-pub fits : (g : Group) (s : List ℕ) (p k : ℕ) → judgedFrom g s p k ≡ accepted tt → fit g s p k ≡ true
-unfolding judgedFrom
-fits g s p k j = good (fit g s p k) (groupRanges g s p k) j .all
 
 module _ (e : Entries) (s : List ℕ) (p k : ℕ) where
   pub step-none : k ≡ 0 → stepIn (entries e) s (record { place = p; left = k }) ≡ accepted noSuchEntry

@@ -1,13 +1,12 @@
 -- What an entry says, one law for each of document 01's cases.
 -- Assumes nothing.
-use Prim.Native.Nat.{ℕ, _<_, _^_}
+use Prim.Native.Nat.{ℕ}
 use mathlib.Core.Path.{_≡_, refl, ap, sym, _∙_}
 use mathlib.Core.Bool.{true, false}
 use mathlib.Core.List.{List}
 use borrow.Author.Tests.{eq-eqb, ne-eqb}
 use lib.Dec.{eqb, lit<}
 use lib.IntN.{ℤ, pos, negsuc, negℤ}
-use lib.Signed.{mag}
 use mir.Syntax.{w64}
 use mir.Val.{SFits, ofZ, toZ}
 use Rattle.wire.proofs.Signs.{kept}
@@ -19,10 +18,6 @@ use Rattle.record.specs.Entry.{xe, xf, xg, levels, prices, boths, indexP
 
 pub zero-fits : SFits w64 (pos 0)
 zero-fits = record { sfits = lit< tt }
-
--- a signed number that a call gave and that passes through its bits
-pub passed : {z y : ℤ} → mag z < 2 ^ 63 → z ≡ y → toZ w64 (ofZ w64 z) ≡ y
-passed h e = kept _ (record { sfits = h }) ∙ e
 
 same-self : (z : ℤ) → same z z ≡ true
 same-self (pos n) = eq-eqb n n refl

@@ -14,7 +14,7 @@ use Rattle.layout.specs.Group.{shown, shownPlace, next, place, fit, quantities,
 use Rattle.layout.proofs.Walk.{and-both, fit-fewer, Ahead, ahead, groupRanges-step, groupRanges-none, Good, good}
 use Rattle.record.specs.Asked.{Asked, found, noSuchEntry, below, judgedAs, judging}
 use Rattle.record.specs.Entry.{Entry, entryAt, entryOf, entryAsked, At, startIn, startOf, stepIn, stepOf, stepAfter, entryFound}
-use Rattle.record.proofs.Entries.{NoEntries, bare, grouped, unknown, no-step, no-entry, step-none, step-found}
+use Rattle.record.proofs.Entries.{NoEntries, bare, grouped, unknown, no-step, no-entry, groups-accepted, step-none, step-found}
 
 pred-is : (k : ℕ) → suc k - 1 ≡ k
 pred-is k = omega arith
@@ -63,13 +63,6 @@ module _ (m : Message) (e : Entries) (b : behind m ≡ entries e) (s : List ℕ)
       (from i (next (entryGroup e) s p) k (rest-accepted (entryGroup e) s p k j) ∙ ap accepted (sym (below-more i k _)))
 
 -- ---- from the start cursor of a body
-
--- the groups of a body that is accepted
-pub groups-accepted : (m : Message) (s : List ℕ) → judged m s ≡ accepted tt → judgedFrom (group m) s (start m) (count m s) ≡ accepted tt
-unfolding judged judgedFrom guard
-groups-accepted m s j =
-    let a : Good (whole m s) (inRange m s) = good (whole m s) (inRange m s) j in
-    rw (and-both (leb (start m) (length s)) (fit (group m) s (start m) (count m s)) (a .all) .1, and-both (ranges (fields m) s 0) (groupRanges (group m) s (start m) (count m s)) (a .each) .1)
 
 none-after : {l : Listed} (s : List ℕ) (i : ℕ) (c : At) → NoEntries l → entryFound (stepAfter l s i c) ≡ accepted noSuchEntry
 unfolding stepAfter

@@ -6,7 +6,9 @@ ghost use Rattle.record.specs.Paper.{whose, paperCursor, paperStep};
 use crate::Entry;
 use crate::Record;
 use crate::Refusal;
+use crate::entry::COUNT;
 use crate::entry::Entries;
+use crate::entry::START;
 use crate::entry::behind;
 use crate::entry::entry_at;
 use crate::entry::groups;
@@ -50,12 +52,12 @@ impl Cursor {
     {
         match kind {
             Record::SNAPSHOT => Cursor {
-                place: 69,
-                left: wire::be4(body, 65),
+                place: START,
+                left: wire::be4(body, COUNT),
             },
             Record::INDEX => Cursor {
-                place: 69,
-                left: wire::be4(body, 65),
+                place: START,
+                left: wire::be4(body, COUNT),
             },
             _ => Cursor { place: 0, left: 0 },
         }

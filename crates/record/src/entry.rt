@@ -1,18 +1,28 @@
 // What an entry says.
 ghost use mathlib.Core.Path.{_≡_};
 ghost use mathlib.Core.Bool.{true, cond};
+ghost use Prim.Native.Nat.{_<_};
 ghost use mathlib.Core.List.{[], _∷_};
 ghost use lib.IntN.{pos};
 ghost use Rattle.wire.specs.Answer.{accepted};
 ghost use Rattle.layout.specs.Kind.{among};
-ghost use Rattle.layout.specs.Layout.{ofSnapshot, ofIndex, entryGroup};
-ghost use Rattle.layout.specs.Group.{fit, next};
+ghost use Rattle.wire.specs.Bytes.{beAt};
+ghost use Rattle.layout.specs.Layout.{ofSnapshot, ofIndex, entryGroup, entries};
+ghost use Rattle.layout.specs.Group.{fit, next, place};
 ghost use Rattle.layout.specs.Paper.{meant};
-ghost use Rattle.record.specs.Entry.{levels, prices, boths, indexPrices, same, saysIn, entryAt, quantityAt};
+ghost use Rattle.record.specs.Entry.{levels, prices, boths, indexPrices, same, saysIn, entryAt, entryIn, entryAsked, quantityAt, quantityIn, quantityAsked};
 ghost use Rattle.record.specs.Entry as of;
-ghost use Rattle.record.specs.Paper.{whose, paperSays, paperEntry, paperQuantity};
+ghost use Rattle.record.specs.Paper.{whose, paperSays, paperEntry, paperAskedEntry, paperQuantity};
+use crate::Record;
 use crate::Refusal;
+use crate::judge;
 use layout::Groups;
+use layout::Verdict;
+
+// Where the count of entries stands, and where the first does: behind the common part.
+pub(crate) const COUNT: usize = 65;
+
+pub(crate) const START: usize = 69;
 
 // Whose entries: a snapshot's, or an index's.
 pub enum Entries {
@@ -264,5 +274,67 @@ fn quantity_at(e: Entries, s: &[u8], p: usize, j: u32) -> AskedQuantity
             }
         }
         Entries::OfIndex => AskedQuantity::NoSuchEntry,
+    }
+}
+
+// Where entry i stands, of entries that are all there.
+fn place_of(e: Entries, s: &[u8], i: u32) -> usize
+    requires { ⌜ (fit (entryGroup (whose e)) (now s) 69 (beAt (now s) 65 4) ≡ true) × (i < beAt (now s) 65 4) ⌝ }
+    ensures { λ r. ⌜ (r ≡ place (entryGroup (whose e)) (now (s .entry)) 69 i) × (fit (entryGroup (whose e)) (now (s .entry)) r 1 ≡ true) ⌝ }
+{
+    layout::place(groups(e), s, START, i)
+}
+
+// Entry i of entries that are all there.
+fn entry_in(e: Entries, s: &[u8], i: u32) -> AskedEntry
+    requires { ⌜ fit (entryGroup (whose e)) (now s) 69 (beAt (now s) 65 4) ≡ true ⌝ }
+    ensures { λ r. ⌜ paperAskedEntry r ≡ accepted (entryIn (entries (whose e)) 69 (now (s .entry)) i) ⌝ }
+{
+    if i < wire::be4(s, COUNT) {
+        let p = place_of(e, s, i);
+        AskedEntry::Found(entry_at(e, s, p))
+    } else {
+        AskedEntry::NoSuchEntry
+    }
+}
+
+// Shown quantity j of entry i, of entries that are all there.
+fn quantity_in(e: Entries, s: &[u8], i: u32, j: u32) -> AskedQuantity
+    requires { ⌜ fit (entryGroup (whose e)) (now s) 69 (beAt (now s) 65 4) ≡ true ⌝ }
+    ensures { λ r. ⌜ paperQuantity r ≡ accepted (quantityIn (entries (whose e)) 69 (now (s .entry)) i j) ⌝ }
+{
+    if i < wire::be4(s, COUNT) {
+        let p = place_of(e, s, i);
+        quantity_at(e, s, p, j)
+    } else {
+        AskedQuantity::NoSuchEntry
+    }
+}
+
+// Entry i of a body, from 0, after 4 and 5 for the whole of it.
+pub fn entry_of(kind: u32, body: &[u8], i: u32) -> AskedEntry
+    ensures { λ r. ⌜ paperAskedEntry r ≡ entryAsked kind (now (body .entry)) i ⌝ }
+{
+    match judge(kind, body) {
+        Verdict::Accepted => match kind {
+            Record::SNAPSHOT => entry_in(Entries::OfSnapshot, body, i),
+            Record::INDEX => entry_in(Entries::OfIndex, body, i),
+            _ => AskedEntry::NoSuchEntry,
+        },
+        Verdict::Refused(x) => AskedEntry::Refused(x),
+    }
+}
+
+// Shown quantity j of entry i, each from 0, whatever the entry says: the wire's count decides.
+pub fn quantity_of(kind: u32, body: &[u8], i: u32, j: u32) -> AskedQuantity
+    ensures { λ r. ⌜ paperQuantity r ≡ quantityAsked kind (now (body .entry)) i j ⌝ }
+{
+    match judge(kind, body) {
+        Verdict::Accepted => match kind {
+            Record::SNAPSHOT => quantity_in(Entries::OfSnapshot, body, i, j),
+            Record::INDEX => quantity_in(Entries::OfIndex, body, i, j),
+            _ => AskedQuantity::NoSuchEntry,
+        },
+        Verdict::Refused(x) => AskedQuantity::Refused(x),
     }
 }

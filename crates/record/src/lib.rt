@@ -35,6 +35,8 @@ pub use entry::AskedEntry;
 pub use entry::AskedQuantity;
 pub use entry::Entry;
 pub use entry::Says;
+pub use entry::entry_of;
+pub use entry::quantity_of;
 pub use framed::FrameAnswer;
 pub use framed::FrameReading;
 pub use framed::read_frame;

@@ -3,7 +3,7 @@ use mathlib.Core.Path.{_≡_, ap, sym, _∙_}
 use native.Mathlib.Omega.{arith}
 use borrow.Author.Needs.{needs}
 use Rattle.wire.specs.Bytes.{beAt}
-use Rattle.record.proofs.Says.{passed}
+use Rattle.record.proofs.Tell.{kept}
 use Rattle.record.proofs.Entries.{SnapshotEntry, snapshot-entry, IndexEntry, index-entry, quantity-found, quantity-behind, quantity-none}
 use Rattle.record.proofs.entry.quantity_at.Statement.{statement}
 use Rattle.record.proofs.entry.quantity_at.Tie as tie
@@ -29,7 +29,7 @@ add-i64-at-2 c = let b = below c in omega (arith, of-snapshot (c .before .before
 
 returns : tie.Need-returns
 returns c =
-    rw (passed (c .i64-at .ok) (c .i64-at .ensures), c .before .before .before .enum-told .given .1)
+    rw (kept (c .i64-at .ok) (c .i64-at .ensures), c .before .before .before .enum-told .given .1)
     (sym (quantity-found (of-snapshot (c .before .before .before)) (below (c .before))))
 
 returns-2 : tie.Need-returns-2

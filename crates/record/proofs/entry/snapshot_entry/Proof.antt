@@ -1,6 +1,6 @@
 use Rattle.layout.specs.Layout.{values}
 use Rattle.record.specs.Entry.{entryAt}
-use Rattle.record.proofs.Says.{passed}
+use Rattle.record.proofs.Tell.{kept}
 use Rattle.record.proofs.entry.snapshot_entry.Statement.{statement}
 use Rattle.record.proofs.entry.snapshot_entry.Tie as tie
 
@@ -8,7 +8,7 @@ returns : tie.Need-returns
 unfolding entryAt values
 returns c =
     let says =
-    rw (passed (c .before .before .before .before .before .i64-at .ok) (c .before .before .before .before .before .i64-at .ensures), passed (c .before .before .before .before .i64-at2 .ok) (c .before .before .before .before .i64-at2 .ensures), passed (c .before .before .i64-at3 .ok) (c .before .before .i64-at3 .ensures), c .before .before .before .be22 .ensures, c .before .be4 .ensures, c .before .before .before .before .before .before .be2 .ensures) at (c .said .ensures)
+    rw (kept (c .before .before .before .before .before .i64-at .ok) (c .before .before .before .before .before .i64-at .ensures), kept (c .before .before .before .before .i64-at2 .ok) (c .before .before .before .before .i64-at2 .ensures), kept (c .before .before .i64-at3 .ok) (c .before .before .i64-at3 .ensures), c .before .before .before .be22 .ensures, c .before .be4 .ensures, c .before .before .before .before .before .before .be2 .ensures) at (c .said .ensures)
     in
     λ i. record { characters = c .before .before .before .before .before .before .be2 .ensures i; says = says i }
 

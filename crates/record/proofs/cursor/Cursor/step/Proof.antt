@@ -1,16 +1,18 @@
 use mathlib.Core.Path.{sym}
+use Rattle.layout.specs.Layout.{snapshot, index}
 use Rattle.record.specs.Entry.{stepOf}
-use Rattle.record.proofs.Entries.{named-snapshot, named-index, no-entries, no-step}
+use Rattle.record.proofs.Choice.{named-as}
+use Rattle.record.proofs.Entries.{no-entries, no-step}
 use Rattle.record.proofs.cursor.Cursor.step.Statement.{statement}
 use Rattle.record.proofs.cursor.Cursor.step.Tie as tie
 
 returns : tie.Need-returns
 unfolding stepOf
-returns c = rw (named-snapshot (c .before .match .keys1)) (c .step-in .ensures)
+returns c = rw (named-as snapshot (c .before .match .keys1)) (c .step-in .ensures)
 
 returns-2 : tie.Need-returns-2
 unfolding stepOf
-returns-2 c = rw (named-index (c .before .match .keys2)) (c .step-in2 .ensures)
+returns-2 c = rw (named-as index (c .before .match .keys2)) (c .step-in2 .ensures)
 
 returns-3 : tie.Need-returns-3
 returns-3 c = sym (no-step _ _ (no-entries _ (c .match .rest .0 .1) (c .match .rest .1)))
