@@ -27,6 +27,7 @@ pub enum Step {
     Refused(Refusal),
 }
 
+// The entry at a place with some left, after 4 and 5 for its own fields and shown quantities.
 fn step_in(e: Entries, body: &[u8], place: usize, left: u32) -> Step
     ensures { λ r. ⌜ paperStep r ≡ stepIn (entries (whose e)) (now (body .entry)) (record { place = place; left = left }) ⌝ }
 {
@@ -63,7 +64,7 @@ impl Cursor {
         }
     }
 
-    // The entry at the cursor, after 4 and 5 for its own fields and shown quantities.
+    // The entry at the cursor and the cursor behind it; at 0 left there is none.
     pub fn step(self, kind: u32, body: &[u8]) -> Step
         ensures { λ r. ⌜ paperStep r ≡ stepOf (named kind) (now (body .entry)) (paperCursor self) ⌝ }
     {

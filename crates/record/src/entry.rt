@@ -1,12 +1,12 @@
-// What an entry says.
+// Entries: what each says, and entries and their shown quantities by position.
 ghost use mathlib.Core.Path.{_≡_};
 ghost use mathlib.Core.Bool.{true, cond};
-ghost use Prim.Native.Nat.{_<_};
 ghost use mathlib.Core.List.{[], _∷_};
+ghost use Prim.Native.Nat.{_<_};
 ghost use lib.IntN.{pos};
 ghost use Rattle.wire.specs.Answer.{accepted};
-ghost use Rattle.layout.specs.Kind.{among};
 ghost use Rattle.wire.specs.Bytes.{beAt};
+ghost use Rattle.layout.specs.Kind.{among};
 ghost use Rattle.layout.specs.Layout.{ofSnapshot, ofIndex, entryGroup, entries};
 ghost use Rattle.layout.specs.Group.{fit, next, place};
 ghost use Rattle.layout.specs.Paper.{meant};
@@ -79,7 +79,7 @@ pub enum AskedQuantity {
     Refused(Refusal),
 }
 
-// Which type characters are a level, a price, price and size; and a price in an index.
+// Which type characters are a level, a price, price and size; and a price in an index. `0` is 0x3020, `x1` is 0x7831.
 fn is_level(characters: u16) -> bool
     ensures { λ r. ⌜ r ≡ among levels characters ⌝ }
 {
