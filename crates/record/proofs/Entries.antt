@@ -1,12 +1,12 @@
 -- Entries: by their type, in the bytes that hold them, and a step of the cursor.
 -- Assumes nothing.
-use Prim.Native.Nat.{ℕ, zero, suc, _+_, _-_, _*_, _<_, _≤_, zero-le}
-use mathlib.Core.Path.{_≡_, refl, ap, sym, _∙_}
-use mathlib.Core.Bool.{Bool, true, false, cond, _&&_}
-use mathlib.Core.List.{List, [], _∷_, _++_}
+use Prim.Native.Nat.{ℕ, _+_, _-_, _*_, _<_, _≤_, zero-le}
+use mathlib.Core.Path.{_≡_, refl, _∙_}
+use mathlib.Core.Bool.{true}
+use mathlib.Core.List.{List, [], _∷_}
 use native.Mathlib.Omega.{arith}
-use borrow.Author.Tests.{eq-eqb, ne-eqb, eqb-true, lt-ltb, le-ltb}
-use lib.Dec.{leb, eqb, lit<}
+use borrow.Author.Tests.{eq-eqb, ne-eqb, lt-ltb, le-ltb}
+use lib.Dec.{leb, lit<}
 use lib.ListN.{length, take, drop}
 use mir.Syntax.{w64}
 use mir.Val.{toZ}
@@ -14,8 +14,8 @@ use Rattle.wire.specs.Answer.{accepted, refused, guard, andThen}
 use Rattle.wire.specs.Bytes.{beAt, part}
 use Rattle.wire.proofs.Be.{beAt-part, beAt-here}
 use Rattle.layout.specs.Kind.{Kind, Form, unsigned, signed, written, form, bytes, width}
-use Rattle.layout.specs.Layout.{Message, heartbeat, channelHeartbeat, resend, statistics, securityStatus, snapshot, index, volumeIndex, order, trade, typeNumber, fields, Listed, listed, unlisted, named, Group, streams, switches, Behind, nothing, groups, entries, behind, Entries, ofSnapshot, ofIndex, entryGroup, snapshotEntries, indexEntries, size, ranges, values, valueAt}
-use Rattle.layout.specs.Group.{shown, shownPlace, next, place, placeFrom, fit, groupRanges, judgedFrom, group, start, count, whole, inRange, judged}
+use Rattle.layout.specs.Layout.{Message, heartbeat, channelHeartbeat, resend, statistics, securityStatus, snapshot, index, volumeIndex, order, trade, fields, Listed, listed, unlisted, named, Group, streams, switches, nothing, groups, entries, behind, Entries, entryGroup, snapshotEntries, indexEntries, size, ranges, values, valueAt}
+use Rattle.layout.specs.Group.{shown, next, place, placeFrom, fit, groupRanges, judgedFrom, group, start, count, whole, inRange, judged}
 use Rattle.layout.proofs.Walk.{Ahead, ahead, and-both, fit-fewer, fit-there, Good, good}
 use Rattle.record.proofs.Choice.{named-as, named-back}
 use Rattle.record.specs.Asked.{found, noSuchEntry, judging}

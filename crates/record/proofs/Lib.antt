@@ -7,4 +7,4 @@ pub mod Names
 pub mod Says
 pub mod Entries
 pub mod Steps
-pub mod EntryAnswers
+pub mod UniqueEntry

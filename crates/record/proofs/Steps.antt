@@ -1,19 +1,18 @@
 -- On an accepted body, step i from the start cursor is entry i by position.
 -- Assumes nothing.
-use Prim.Native.Nat.{ℕ, zero, suc, _+_, _-_, _*_, _<_, _≤_, zero-le}
+use Prim.Native.Nat.{ℕ, zero, suc, _-_, zero-le}
 use mathlib.Core.Path.{_≡_, refl, ap, sym, _∙_}
-use mathlib.Core.Bool.{Bool, true, false, _&&_, and-true}
+use mathlib.Core.Bool.{true, _&&_}
 use mathlib.Core.List.{List}
 use native.Mathlib.Omega.{arith}
 use borrow.Author.Tests.{lt-ltb, le-ltb}
-use lib.Dec.{leb, lit<, leb·suc-suc}
-use lib.ListN.{length}
-use Rattle.wire.specs.Answer.{Answer, accepted, refused, guard, andThen}
+use lib.Dec.{lit<, leb·suc-suc}
+use Rattle.wire.specs.Answer.{accepted, guard, andThen}
 use Rattle.layout.specs.Layout.{Message, fields, Listed, listed, unlisted, named, Group, Behind, nothing, groups, entries, behind, Entries, entryGroup, ranges}
-use Rattle.layout.specs.Group.{shown, shownPlace, next, place, fit, quantities, groupRanges, judgedFrom, group, start, counted, count, whole, inRange, judged}
-use Rattle.layout.proofs.Walk.{and-both, fit-fewer, Ahead, ahead, groupRanges-step, groupRanges-none, Good, good}
-use Rattle.record.specs.Asked.{Asked, found, noSuchEntry, below, judgedAs, judging}
-use Rattle.record.specs.Entry.{Entry, entryAt, entryOf, entryAsked, At, startIn, startOf, stepIn, stepOf, stepAfter, entryFound}
+use Rattle.layout.specs.Group.{shown, shownPlace, next, place, fit, quantities, groupRanges, judgedFrom, start, counted, judged}
+use Rattle.layout.proofs.Walk.{and-both, fit-fewer, ahead, groupRanges-step, groupRanges-none, Good, good}
+use Rattle.record.specs.Asked.{noSuchEntry, below, judgedAs, judging}
+use Rattle.record.specs.Entry.{Entry, entryAt, entryOf, entryAsked, At, startOf, stepIn, stepOf, stepAfter, entryFound}
 use Rattle.record.proofs.Entries.{NoEntries, bare, grouped, unknown, no-step, no-entry, groups-accepted, step-none, step-found}
 
 pred-is : (k : ℕ) → suc k - 1 ≡ k

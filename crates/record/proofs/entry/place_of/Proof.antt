@@ -1,5 +1,4 @@
-use mathlib.Core.Path.{_∙_}
-use Rattle.record.proofs.Entries.{Placed, placed}
+use Rattle.record.proofs.Entries.{placed}
 use Rattle.record.specs.Paper.{whose}
 use Rattle.layout.specs.Layout.{entryGroup}
 use Rattle.record.proofs.entry.place_of.Statement.{statement}

@@ -1,9 +1,8 @@
--- Two answers of a call on entries that say the same in document 01's terms are the same: each way into those terms has a way back.
+-- Two answers on entries that meet a promise are equal: this paper's terms give each answer of the code back.
 -- Assumes nothing.
 use Prim.Native.Nat.{ℕ}
 use mathlib.Core.Path.{_≡_, refl, ap, sym, _∙_}
 use mathlib.Core.Bool.{cond}
-use mathlib.Core.List.{List}
 use lib.Dec.{eqb}
 use lib.IntN.{ℤ, pos, negsuc}
 use Rattle.wire.specs.Answer.{Answer, accepted, refused}
