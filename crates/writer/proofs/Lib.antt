@@ -1,4 +1,5 @@
 pub mod Bodies
+pub mod Frames
 pub mod Numbers
 pub mod Round
 pub mod Shift
