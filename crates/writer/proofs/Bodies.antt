@@ -56,7 +56,7 @@ pub same : (m : Message) {zs : List ℤ} (ts gs : List ℕ) → Numbers (fields 
 unfolding body
 same m {zs} ts gs g h =
     let a : List ℕ = encode (fields m) zs ts in
-    let n : length a ≡ start m = length-encode ts g h in
+    let n : length a ≡ start m = length-encode (fields m) zs ts h in
     let p : start m ≡ length a + 0 = omega arith in
     let r = round ts [] gs g h in
     let k : ℕ = stated m zs in

@@ -105,8 +105,8 @@ framed type b z t l =
     let n : length hd ≡ headerWidth = length-header type (length b) t k in
     record {
       reads =
-        frame-reads headerWidth bodyLimit hd b z (lit≤ tt) n (header-length type (length b) t k) l
-        ∙ rw (header-type type (length b) t k);
+          frame-reads headerWidth bodyLimit hd b z (lit≤ tt) n (header-length type (length b) t k) l
+          ∙ rw (header-type type (length b) t k);
       lent = body-back headerWidth bodyLimit hd b z (lit≤ tt) n;
     }
 

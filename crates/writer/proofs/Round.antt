@@ -96,25 +96,27 @@ round ts a b (words {t} {ks} {zs} g) h =
       inside = r .inside;
     })
 
--- a field has its width
-pub length-encode : {l : List Kind} {zs : List ℤ} (ts : List ℕ) → Numbers l zs → length ts ≡ textSize l → length (encode l zs ts) ≡ size l
+-- ---- a field has its width
+
+pub length-field : (f : Form) (zs : List ℤ) (ts : List ℕ) → textWidth f ≤ length ts → length (fieldBytes f zs ts) ≡ bytes f
+length-field (unsigned w) zs ts h = length-digits w (bits (first zs))
+length-field signed zs ts h = length-digits 8 (bits (first zs))
+length-field (written t) zs ts h = length-take-le (characters t) ts h
+
+pub length-behind : (f : Form) (ts : List ℕ) → length (textsBehind f ts) ≡ length ts - textWidth f
+length-behind (unsigned w) ts = omega arith
+length-behind signed ts = omega arith
+length-behind (written t) ts = length-drop (characters t) ts
+
+pub length-encode : (l : List Kind) (zs : List ℤ) (ts : List ℕ) → length ts ≡ textSize l → length (encode l zs ts) ≡ size l
 unfolding encode textSize size
-length-encode ts none h = refl
-length-encode ts (number {k} {ks} {z} {zs} o g) h =
-    let f = fixed o in
-    rw (
-      f .held zs ts,
-      f .behind zs,
-      f .no-text ts,
-      length-append,
-      length-digits (width k) (bits z),
-      length-encode ts g (omega (arith, f .no-width)),
-    )
-length-encode ts (words {t} {ks} {zs} g) h =
+length-encode [] zs ts h = refl
+length-encode (k ∷ ks) zs ts h =
+    let u : length (textsBehind (form k) ts) ≡ textSize ks = length-behind (form k) ts ∙ omega arith in
     rw (
       length-append,
-      length-take-le (characters t) ts (omega arith),
-      length-encode (drop (characters t) ts) g (rw length-drop (omega arith)),
+      length-field (form k) zs ts (omega arith),
+      length-encode ks (numbersBehind (form k) zs) (textsBehind (form k) ts) u,
     )
 
 -- ---- what is read and encoded again is the same bytes
