@@ -7,3 +7,4 @@ pub mod Round
 pub mod Shift
 pub mod Stores
 pub mod Tests
+pub mod Unique

@@ -15,7 +15,7 @@ use Rattle.record.specs.declared.channel_heartbeat.ChannelHeartbeat as channel-
 use Rattle.record.specs.declared.resend.Resend as resend
 use Rattle.record.specs.declared.statistics.Statistics as statistics
 use Rattle.record.specs.declared.security_status.SecurityStatus as security-status
-use Rattle.record.specs.declared.snapshot.Common as common
+use Rattle.record.specs.declared.common.Common as common
 use Rattle.record.specs.declared.snapshot.Snapshot as snapshot
 use Rattle.record.specs.declared.index.Index as index
 use Rattle.record.specs.declared.volume_index.VolumeIndex as volume-index

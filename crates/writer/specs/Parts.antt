@@ -11,7 +11,7 @@ use Rattle.layout.specs.Group.{noGroup, group, groupRanges, verdict}
 use Rattle.record.specs.Record.{Reading, known, unknown}
 use Rattle.record.specs.Paper.{paperRecord, commonValues}
 use Rattle.record.specs.declared.Record.{Record}
-use Rattle.record.specs.declared.snapshot.Common.{Common}
+use Rattle.record.specs.declared.common.Common.{Common}
 use Rattle.writer.specs.Body.{encode, textSize, numbersIn, stated, even}
 use Rattle.writer.specs.declared.shape.Shape.{Shape}
 
