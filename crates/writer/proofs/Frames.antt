@@ -19,7 +19,7 @@ use Rattle.writer.specs.Write.{header, withSum, frameOf, frameLength}
 -- ---- what is written reads back
 
 -- the frame that a header of type and length, and a body of len bytes, say
-abbrev said : ℕ → ℕ → ℕ → Frame
+abbrev pub said : ℕ → ℕ → ℕ → Frame
 said h type len = record { kind = type; len = len; total = h + len + sumWidth }
 
 module _ (h limit : ℕ) (hd b z : List ℕ) (g : 4 ≤ h) (n : length hd ≡ h) where
