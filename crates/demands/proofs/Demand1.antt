@@ -18,7 +18,7 @@ above h k = omega arith
 holds : {C : Type 0} → C → (C → ⊥) → ⊥
 holds c x = x c
 
-by-reading : (s : List ℕ) (a : Answer Frame) → Reading headerWidth bodyLimit s a → Judged (frameRules s) a
+pub by-reading : (s : List ℕ) (a : Answer Frame) → Reading headerWidth bodyLimit s a → Judged (frameRules s) a
 by-reading s a (no-header i) = here i
 by-reading s a (too-long i e j) = later (above i) (here (rw e at j))
 by-reading s a (cut i e j k) =

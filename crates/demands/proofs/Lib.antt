@@ -1,2 +1,4 @@
 pub mod Cases
 pub mod Demand1
+pub mod Back
+pub mod Demand2

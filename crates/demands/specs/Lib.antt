@@ -1,2 +1,3 @@
 pub mod Cases
 pub mod Demand1
+pub mod Demand2

@@ -1,0 +1,238 @@
+-- How a record, texts and groups are judged, case by case.
+-- Assumes nothing.
+use Prim.Native.Nat.{ℕ, _+_, _<_, _≤_}
+use mathlib.Core.Path.{_≡_, refl, ap, sym, _∙_}
+use mathlib.Core.Bool.{Bool, true, false, not, _&&_, and-true, and-false}
+use mathlib.Core.List.{List, [], _++_}
+use native.Mathlib.Omega.{arith}
+use borrow.Author.Tests.{lt-ltb, le-ltb, eq-eqb, ne-eqb, ltb-false, eqb-true, not-true, not-false}
+use lib.Dec.{ltb, eqb, lit≤}
+use lib.IntN.{ℤ}
+use lib.ListN.{length}
+use Rattle.wire.specs.Answer.{Answer, accepted, refused, guard, andThen}
+use Rattle.wire.specs.Bytes.{splice}
+use Rattle.wire.specs.Refusal.{tooLong, notItsLayout, outOfRange, outputShort}
+use Rattle.frame.specs.Framing.{bodyLimit}
+use Rattle.layout.specs.Layout.{Message, heartbeat, channelHeartbeat, resend, statistics, securityStatus, snapshot, index, volumeIndex, order, trade, fields, Group, size}
+use Rattle.layout.specs.Paper.{paper}
+use Rattle.layout.specs.declared.group.Verdict.{Verdict}
+use Rattle.layout.specs.Group.{place, fit, groupRanges, verdict, also, judgedFrom, placeFrom, noGroup}
+use Rattle.layout.proofs.Walk.{and-both}
+use Rattle.record.specs.Record.{Reading, known, unknown}
+use Rattle.record.specs.Paper.{paperRecord}
+use Rattle.record.specs.declared.Record.{Record}
+use Rattle.writer.specs.Body.{encode, body, bodyLength, textSize, even, exact, allIn, numbersIn, stated}
+use Rattle.writer.specs.Write.{frameLength, frameOf, fitting, judgedAs, judging, leaving}
+use Rattle.writer.specs.Parts.{layoutIn, numbersOf, typeIn, isKnown, groupIn, countOf, shaped, inRange, judgedGroups}
+use Rattle.writer.specs.declared.shape.Shape.{Shape}
+
+-- what holds of the record of an arm holds of the record
+pub moved : {A : Type 0} (f : Record → A) {a : A} {r v : Record} → r ≡ v → a ≡ f v → a ≡ f r
+moved f e h = h ∙ ap f (sym e)
+
+-- ---- the shape of a record
+
+abbrev pub shape-of-record : Record → Shape
+shape-of-record r = shaped (paperRecord r)
+
+pub shape-by :
+    {s : Shape} {k n t : ℕ} {r v : Record} → (s .listed ≡ true) × ((s .kind ≡ k) × ((s .size ≡ n) × (s .texts ≡ t))) → r ≡ v →
+    _≡_ {A = Shape} (record { listed = true; kind = k; size = n; texts = t }) (shaped (paperRecord v)) → s ≡ shaped (paperRecord r)
+shape-by e a f =
+    (λ i. record { listed = e .0 i; kind = e .1 .0 i; size = e .1 .1 .0 i; texts = e .1 .1 .1 i })
+    ∙ f ∙ ap (λ (r : Record). shaped (paperRecord r)) (sym a)
+
+-- ---- groups
+
+pub judged-arm :
+    (gs : List ℕ) {a : Answer Unit} {r v : Record} → r ≡ v → a ≡ judgedGroups (groupIn (paperRecord v)) gs (countOf (paperRecord v)) →
+    a ≡ judgedGroups (groupIn (paperRecord r)) gs (countOf (paperRecord r))
+judged-arm gs e h = moved (λ (r : Record). judgedGroups (groupIn (paperRecord r)) gs (countOf (paperRecord r))) e h
+
+-- a type without groups
+pub none-even : (gs : List ℕ) → length gs ≡ 0 → accepted tt ≡ judgedGroups noGroup gs 0
+unfolding judgedGroups even fit place groupRanges guard
+none-even gs h = rw h
+
+pub none-odd : (gs : List ℕ) → (length gs ≡ 0 → ⊥) → refused notItsLayout [] ≡ judgedGroups noGroup gs 0
+unfolding judgedGroups even fit place groupRanges guard
+none-odd gs h = rw (ne-eqb 0 (length gs) (λ e. h (sym e)))
+
+-- groups whose place behind the last is the end, and those where it is not
+module _ (g : Group) (gs : List ℕ) (k : ℕ) where
+  even-by : (t : Bool) → fit g gs 0 k ≡ t → placeFrom g gs 0 k ≡ length gs → judgedFrom g gs 0 k ≡ judgedGroups g gs k
+  unfolding judgedGroups judgedFrom placeFrom even guard
+  even-by true f e = rw (f, eq-eqb (place g gs 0 k) (length gs) (rw f at e))
+  even-by false f e = rw f
+
+  pub exact-even : placeFrom g gs 0 k ≡ length gs → judgedFrom g gs 0 k ≡ judgedGroups g gs k
+  exact-even e = even-by (fit g gs 0 k) refl e
+
+  odd-by : (t : Bool) → fit g gs 0 k ≡ t → (placeFrom g gs 0 k ≡ length gs → ⊥) → refused notItsLayout [] ≡ judgedGroups g gs k
+  unfolding judgedGroups placeFrom even guard
+  odd-by true f e = rw (f, ne-eqb (place g gs 0 k) (length gs) (rw f at e))
+  odd-by false f e = rw f
+
+  pub exact-odd : (placeFrom g gs 0 k ≡ length gs → ⊥) → refused notItsLayout [] ≡ judgedGroups g gs k
+  exact-odd e = odd-by (fit g gs 0 k) refl e
+
+-- ---- the body's length and the output's
+
+module _ (l room : ℕ) where
+  pub fit-long : bodyLimit < l → refused tooLong [] ≡ fitting l room
+  unfolding guard
+  fit-long h = rw (lt-ltb bodyLimit l h)
+
+  pub fit-short : l ≤ bodyLimit → room < frameLength l → refused outputShort [] ≡ fitting l room
+  unfolding guard
+  fit-short h k = rw (le-ltb bodyLimit l h, lt-ltb room (frameLength l) k)
+
+  pub fit-whole : l ≤ bodyLimit → frameLength l ≤ room → accepted (frameLength l) ≡ fitting l room
+  unfolding guard
+  fit-whole h k = rw (le-ltb bodyLimit l h, le-ltb room (frameLength l) k)
+
+-- ---- "5 for the type, then 4, 5, 2, 6"
+
+-- 4 and 5 of fields and of groups, and what is judged next
+in-order : (e r g : Bool) (w : Answer ℕ) → guard (not e) (refused notItsLayout []) (guard (not (r && g)) (refused outOfRange []) w) ≡ andThen (also r (verdict e g)) (λ (u : Unit). w)
+unfolding guard andThen
+in-order true true true w = refl
+in-order true true false w = refl
+in-order true false true w = refl
+in-order true false false w = refl
+in-order false true true w = refl
+in-order false true false w = refl
+in-order false false true w = refl
+in-order false false false w = refl
+
+-- an answer for a record that is listed or not
+module _ (ts gs : List ℕ) (room : ℕ) where
+  pub not-listed : (x : Reading) → isKnown x ≡ false → refused outOfRange [] ≡ judging x ts gs room
+  not-listed (known m zs) e = let z : _≡_ {A = ℕ} 0 1 = cc in absurd (omega arith)
+  not-listed (unknown t) e = refl
+
+  pub other-texts : (x : Reading) → isKnown x ≡ true → (length ts ≡ textSize (layoutIn x) → ⊥) → refused notItsLayout [] ≡ judging x ts gs room
+  unfolding judgedAs guard
+  other-texts (known m zs) e h = rw (ne-eqb (length ts) (textSize (layoutIn (known m zs))) h)
+  other-texts (unknown t) e h = let z : _≡_ {A = ℕ} 0 1 = cc in absurd (omega arith)
+
+  pub its-texts :
+      (x : Reading) → isKnown x ≡ true → length ts ≡ textSize (layoutIn x) →
+      andThen (also (numbersIn (layoutIn x) (numbersOf x)) (judgedGroups (groupIn x) gs (countOf x))) (λ (u : Unit). fitting (size (layoutIn x) + length gs) room)
+      ≡ judging x ts gs room
+  unfolding judgedAs judgedGroups
+  its-texts (known m zs) e h =
+      rw (eq-eqb (length ts) (textSize (layoutIn (known m zs))) h)
+      (sym
+      (in-order (even (groupIn (known m zs)) gs (stated m zs)) (numbersIn (layoutIn (known m zs)) zs)
+      (groupRanges (groupIn (known m zs)) gs 0 (stated m zs)) (fitting (bodyLength m gs) room)))
+  its-texts (unknown t) e h = let z : _≡_ {A = ℕ} 0 1 = cc in absurd (omega arith)
+
+  -- the same by the verdict that the code found
+  pub found :
+      (x : Reading) → isKnown x ≡ true → length ts ≡ textSize (layoutIn x) → {v : Answer Unit} →
+      v ≡ also (numbersIn (layoutIn x) (numbersOf x)) (judgedGroups (groupIn x) gs (countOf x)) → {a : Answer ℕ} →
+      a ≡ andThen v (λ (u : Unit). fitting (size (layoutIn x) + length gs) room) → a ≡ judging x ts gs room
+  found x k h e f =
+      f ∙ ap (λ (v : Answer Unit). andThen v (λ (u : Unit). fitting (size (layoutIn x) + length gs) room)) e
+      ∙ its-texts x k h
+
+-- ---- what "written" says
+
+pub record Written (x : Reading) (ts gs : List ℕ) (room n : ℕ) : Type 0 where
+  pub listed : isKnown x ≡ true
+  pub texts : length ts ≡ textSize (layoutIn x)
+  pub within : size (layoutIn x) + length gs ≤ bodyLimit
+  pub total : n ≡ frameLength (size (layoutIn x) + length gs)
+  pub there : frameLength (size (layoutIn x) + length gs) ≤ room
+
+fits-by : (l room n : ℕ) (a b : Bool) → ltb bodyLimit l ≡ a → ltb room (frameLength l) ≡ b → fitting l room ≡ accepted n → (l ≤ bodyLimit) × ((n ≡ frameLength l) × (frameLength l ≤ room))
+unfolding guard
+fits-by l room n true b p q e = let z : _≡_ {A = ℕ} 0 1 = cc (rw p at e) in absurd (omega arith)
+fits-by l room n false true p q e = let z : _≡_ {A = ℕ} 0 1 = cc (rw (p, q) at e) in absurd (omega arith)
+fits-by l room n false false p q e =
+    let s : accepted (frameLength l) ≡ accepted n = rw (p, q) at e in
+    let r : frameLength l ≡ n = cc in
+    (ltb-false _ _ p, (sym r, ltb-false _ _ q))
+
+-- exact, in range, within the limit and the output
+pub record Known (m : Message) (zs : List ℤ) (ts gs : List ℕ) (room n : ℕ) : Type 0 where
+  pub exacts : exact m zs ts gs ≡ true
+  pub inside : allIn m zs gs ≡ true
+  pub within : bodyLength m gs ≤ bodyLimit
+  pub total : n ≡ frameLength (bodyLength m gs)
+  pub there : frameLength (bodyLength m gs) ≤ room
+
+known-by : (m : Message) (zs : List ℤ) (ts gs : List ℕ) (room n : ℕ) (a b : Bool) → exact m zs ts gs ≡ a → allIn m zs gs ≡ b → judgedAs m zs ts gs room ≡ accepted n → Known m zs ts gs room n
+unfolding judgedAs guard
+known-by m zs ts gs room n false b p q e = let z : _≡_ {A = ℕ} 0 1 = cc (rw p at e) in absurd (omega arith)
+known-by m zs ts gs room n true false p q e = let z : _≡_ {A = ℕ} 0 1 = cc (rw (p, q) at e) in absurd (omega arith)
+known-by m zs ts gs room n true true p q e =
+    let f = fits-by (bodyLength m gs) room n (ltb bodyLimit (bodyLength m gs)) (ltb room (frameLength (bodyLength m gs))) refl refl (rw (p, q) at e) in
+    record { exacts = p; inside = q; within = f .0; total = f .1 .0; there = f .1 .1 }
+
+pub known-of : (m : Message) (zs : List ℤ) (ts gs : List ℕ) (room n : ℕ) → judgedAs m zs ts gs room ≡ accepted n → Known m zs ts gs room n
+known-of m zs ts gs room n e = known-by m zs ts gs room n (exact m zs ts gs) (allIn m zs gs) refl refl e
+
+pub written-of : (x : Reading) (ts gs : List ℕ) (room n : ℕ) → judging x ts gs room ≡ accepted n → Written x ts gs room n
+written-of (known m zs) ts gs room n e =
+    let k = known-of m zs ts gs room n e in
+    let t = and-both (eqb (length ts) (textSize (layoutIn (known m zs)))) _ (k .exacts) in
+    record { listed = refl; texts = eqb-true _ _ (t .0); within = k .within; total = k .total; there = k .there }
+written-of (unknown t) ts gs room n e = let z : _≡_ {A = ℕ} 0 1 = cc in absurd (omega arith)
+
+-- the output, where the frame was stored, and where it was not
+pub wrote :
+    (x : Reading) (ts gs out : List ℕ) (n kind : ℕ) → judging x ts gs (length out) ≡ accepted n → kind ≡ typeIn x →
+    splice out 0 (frameOf kind (encode (layoutIn x) (numbersOf x) ts ++ gs)) ≡ leaving x ts gs out
+unfolding leaving body
+wrote (known m zs) ts gs out n kind e k = rw (e, k)
+wrote (unknown t) ts gs out n kind e k = let z : _≡_ {A = ℕ} 0 1 = cc in absurd (omega arith)
+
+pub kept-output : (x : Reading) (ts gs out : List ℕ) (n : ℕ) (vs : List ℕ) → judging x ts gs (length out) ≡ refused n vs → out ≡ leaving x ts gs out
+unfolding leaving
+kept-output x ts gs out n vs e = rw e
+
+-- ---- what the code tests
+
+small-fields : (m : Message) → size (fields m) ≤ 69
+unfolding size
+small-fields heartbeat = lit≤ tt
+small-fields channelHeartbeat = lit≤ tt
+small-fields resend = lit≤ tt
+small-fields statistics = lit≤ tt
+small-fields securityStatus = lit≤ tt
+small-fields snapshot = lit≤ tt
+small-fields index = lit≤ tt
+small-fields volumeIndex = lit≤ tt
+small-fields order = lit≤ tt
+small-fields trade = lit≤ tt
+
+small-layout : (x : Reading) → size (layoutIn x) ≤ 69
+unfolding size
+small-layout (known m zs) = small-fields m
+small-layout (unknown t) = lit≤ tt
+
+module _ (r : Record) (s : Shape) (e : s ≡ shaped (paperRecord r)) where
+  pub small : s .size ≤ 69
+  small = rw e (small-layout (paperRecord r))
+
+  listed : not (s .listed) ≡ false → isKnown (paperRecord r) ≡ true
+  listed h = sym (ap (λ (t : Shape). t .listed) e) ∙ not-false (s .listed) h
+
+  module _ (ts gs : List ℕ) (room : ℕ) where
+    pub refuse-type : not (s .listed) ≡ true → refused outOfRange [] ≡ judging (paperRecord r) ts gs room
+    refuse-type h = not-listed ts gs room (paperRecord r) (sym (ap (λ (t : Shape). t .listed) e) ∙ not-true (s .listed) h)
+
+    pub refuse-texts : not (s .listed) ≡ false → (length ts ≡ s .texts → ⊥) → refused notItsLayout [] ≡ judging (paperRecord r) ts gs room
+    refuse-texts h t = other-texts ts gs room (paperRecord r) (listed h) (λ f. t (f ∙ sym (ap (λ (t : Shape). t .texts) e)))
+
+    -- by the verdict on the groups and the fixed fields
+    pub by-verdict :
+        not (s .listed) ≡ false → length ts ≡ s .texts → (w : Verdict) {b : Bool} {v u : Verdict} → paper v ≡ also b (paper w) → b ≡ inRange r →
+        paper w ≡ judgedGroups (groupIn (paperRecord r)) gs (countOf (paperRecord r)) → v ≡ u →
+        andThen (paper u) (λ (x : Unit). fitting (s .size + length gs) room) ≡ judging (paperRecord r) ts gs room
+    by-verdict h t w {b} {v} {u} p q g f =
+        found ts gs room (paperRecord r) (listed h) (t ∙ ap (λ (t : Shape). t .texts) e) {v = paper u}
+        (sym (ap paper f) ∙ p ∙ (λ i. also (q i) (g i)))
+        (ap (λ (t : Shape). andThen (paper u) (λ (x : Unit). fitting (t .size + length gs) room)) e)

@@ -1,0 +1,10 @@
+pub mod Bodies
+pub mod Frames
+pub mod Judging
+pub mod Numbers
+pub mod Output
+pub mod Round
+pub mod Shift
+pub mod Stores
+pub mod Tests
+pub mod Unique

@@ -1,0 +1,4 @@
+pub mod Body
+pub mod Write
+pub mod Parts
+pub mod Paper

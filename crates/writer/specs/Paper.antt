@@ -1,0 +1,22 @@
+-- The code's answers in this paper's terms.
+-- Assumes nothing.
+use Prim.Native.Nat.{ℕ}
+use mathlib.Core.List.{[]}
+use Rattle.wire.specs.Answer.{Answer, accepted, refused}
+use Rattle.wire.specs.Refusal.{tooLong, notItsLayout, outOfRange, outputShort}
+use Rattle.writer.specs.declared.Refusal.{Refusal}
+use Rattle.writer.specs.declared.Refusal.the-variants.{NotItsLayout, OutOfRange, TooLong, OutputShort}
+use Rattle.writer.specs.declared.Written.{Written}
+use Rattle.writer.specs.declared.Written.the-variants.{Whole, Refused}
+
+-- the number of a refusal
+abbrev pub number : Refusal → ℕ
+number NotItsLayout = notItsLayout
+number OutOfRange = outOfRange
+number TooLong = tooLong
+number OutputShort = outputShort
+
+-- the answer
+abbrev pub paper : Written → Answer ℕ
+paper (Whole n) = accepted n
+paper (Refused x) = refused (number x) []

@@ -1,0 +1,64 @@
+-- What a record says of its type, its fields and its groups, in one place for all types. No public promise cites this.
+-- Assumes nothing.
+use Prim.Native.Nat.{ℕ}
+use mathlib.Core.Bool.{Bool, true, false}
+use mathlib.Core.List.{List, [], _∷_}
+use lib.IntN.{ℤ, pos}
+use Rattle.wire.specs.Answer.{Answer}
+use Rattle.layout.specs.Kind.{Kind}
+use Rattle.layout.specs.Layout.{Message, snapshot, Group, commonPart, fields, typeNumber, size}
+use Rattle.layout.specs.Group.{noGroup, group, groupRanges, verdict}
+use Rattle.record.specs.Record.{Reading, known, unknown}
+use Rattle.record.specs.Paper.{paperRecord, commonValues}
+use Rattle.record.specs.declared.Record.{Record}
+use Rattle.record.specs.declared.common.Common.{Common}
+use Rattle.writer.specs.Body.{encode, textSize, numbersIn, stated, even}
+use Rattle.writer.specs.declared.shape.Shape.{Shape}
+
+abbrev pub layoutIn : Reading → List Kind
+layoutIn (known m zs) = fields m
+layoutIn (unknown type) = []
+
+abbrev pub numbersOf : Reading → List ℤ
+numbersOf (known m zs) = zs
+numbersOf (unknown type) = []
+
+abbrev pub typeIn : Reading → ℕ
+typeIn (known m zs) = typeNumber m
+typeIn (unknown type) = type
+
+abbrev pub isKnown : Reading → Bool
+isKnown (known m zs) = true
+isKnown (unknown type) = false
+
+abbrev pub groupIn : Reading → Group
+groupIn (known m zs) = group m
+groupIn (unknown type) = noGroup
+
+abbrev pub countOf : Reading → ℕ
+countOf (known m zs) = stated m zs
+countOf (unknown type) = 0
+
+-- the numbers of a record by which it is judged and stored
+abbrev pub shaped : Reading → Shape
+shaped r =
+    record { listed = isKnown r; kind = typeIn r; size = size (layoutIn r); texts = textSize (layoutIn r) }
+
+-- the fields of a record, from its texts
+abbrev pub fieldsOf : Record → List ℕ → List ℕ
+fieldsOf r ts = encode (layoutIn (paperRecord r)) (numbersOf (paperRecord r)) ts
+
+abbrev pub inRange : Record → Bool
+inRange r = numbersIn (layoutIn (paperRecord r)) (numbersOf (paperRecord r))
+
+-- 4 where groups don't come out even with the count, else 5 where one is out of range
+unfoldable pub judgedGroups : Group → List ℕ → ℕ → Answer Unit
+judgedGroups g gs n = verdict (even g gs n) (groupRanges g gs 0 n)
+
+-- ---- the common part, and one number of four bytes behind it
+
+abbrev pub commonFields : Common → ℕ → List ℕ → List ℕ
+commonFields c n ts = encode (fields snapshot) (commonValues c (pos n ∷ [])) ts
+
+abbrev pub commonIn : Common → Bool
+commonIn c = numbersIn commonPart (commonValues c [])
