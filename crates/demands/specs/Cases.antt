@@ -3,24 +3,58 @@
 use Prim.Native.Nat.{ℕ}
 use mathlib.Core.Path.{_≡_}
 use mathlib.Core.List.{List, [], _∷_, _++_}
+use mathlib.Core.Bool.{false}
 use lib.IntN.{pos}
 use lib.ListN.{take, replicate}
 use Rattle.wire.specs.Answer.{Answer, accepted, refused}
-use Rattle.wire.specs.Refusal.{tooShort, tooLong, wrongSum, notItsLayout, outOfRange}
+use Rattle.wire.specs.Refusal.{tooShort, tooLong, wrongSum, notItsLayout, outOfRange, numberTooLow}
 use Rattle.frame.specs.Framing.{framing, headerWidth, bodyLimit}
 use Rattle.frame.specs.declared.Frame.{Frame}
 use Rattle.layout.specs.Layout as layout
 use Rattle.record.specs.Record.{Reading, known, frameReading}
+use Rattle.gaps.specs.declared.Run.{Run}
+use Rattle.gaps.specs.Gaps.{run}
+use Rattle.gaps.specs.Channel.{Said, new, late, duplicate, heard}
+use Rattle.gaps.specs.Channel as event
+use Rattle.tracker.specs.declared.Tracker.{Tracker}
+use Rattle.tracker.specs.SetUp.{setUp}
+use Rattle.tracker.specs.Arrived.{Arrival, on, arrived}
+use Rattle.demands.specs.Play.{recordOf}
 
 -- a case: what is handed in, and the answer that the document gives
 pub data Case : Type 0 where
   frame : List ℕ → Answer Frame → Case
   record-of : List ℕ → Answer Reading → Case
+  played : List Arrival → List (Answer Said) → List Run → Case
+
+-- arrivals are played on one channel of a tracker that is set up with it alone
+abbrev channel : ℕ
+channel = 2011
+
+abbrev start : Tracker
+start = setUp (channel ∷ []) .tracker
+
+-- what they are answered, and the tracker behind them
+abbrev pub answers : Tracker → List Arrival → List (Answer Said)
+answers t [] = []
+answers t (a ∷ l) = arrived t a .said ∷ answers (arrived t a .next) l
+
+abbrev pub after : Tracker → List Arrival → Tracker
+after t [] = t
+after t (a ∷ l) = after (arrived t a .next) l
+
+pub record Outcome : Type 0 where
+  pub told : List (Answer Said)
+  pub missing : List Run
+
+abbrev pub outcome : List Arrival → Outcome
+outcome l = record { told = answers start l; missing = recordOf (after start l) channel .runs }
 
 -- the definition that the promise of the call cites gives that answer
 abbrev pub Holds : Case → Type 0
 Holds (frame s a) = framing headerWidth bodyLimit s ≡ a
 Holds (record-of s a) = frameReading s .answer ≡ a
+Holds (played l told missing) = outcome l ≡ record { told = told; missing = missing }
 
 -- the statement: each case of the table holds
 infixr 5 _and_
@@ -49,6 +83,16 @@ elevenBytes = header 0x05 0xF3 0xCF 0x00 0x0B ++ replicate 11 0x00 ++ (0x00 ∷ 
 abbrev whole : ℕ → ℕ → ℕ → Answer Frame
 whole k l t = accepted (record { kind = k; len = l; total = t })
 
+-- a tick, and a channel heartbeat that does not end the channel
+abbrev tick : ℕ → Arrival
+tick n = on channel (event.tick (pos n))
+
+abbrev last : ℕ → Arrival
+last m = on channel (event.heartbeat (pos m) false)
+
+abbrev said : Said → Answer Said
+said x = accepted x
+
 abbrev pub cases : List Case
 cases =
     frame (heartbeat 0x00 0x03) (whole 3 0 12)
@@ -65,4 +109,12 @@ cases =
     ∷ record-of (channelHeartbeat 0 0xBF) (accepted (known layout.channelHeartbeat (pos 2011 ∷ pos 10 ∷ pos 0 ∷ [])))
     ∷ record-of (channelHeartbeat 2 0xC1) (refused outOfRange [])
     ∷ record-of elevenBytes (refused notItsLayout [])
+    ∷ played (tick 1 ∷ tick 2 ∷ tick 5 ∷ []) (said new ∷ said new ∷ said new ∷ []) (run 3 4 ∷ [])
+    ∷ played (tick 5 ∷ tick 2 ∷ tick 1 ∷ []) (said new ∷ said late ∷ said late ∷ []) (run 3 4 ∷ [])
+    ∷ played (tick 1 ∷ tick 2 ∷ tick 5 ∷ tick 3 ∷ []) (said new ∷ said new ∷ said new ∷ said late ∷ []) (run 4 4 ∷ [])
+    ∷ played (tick 1 ∷ tick 2 ∷ tick 5 ∷ tick 3 ∷ last 7 ∷ []) (said new ∷ said new ∷ said new ∷ said late ∷ said heard ∷ []) (run 4 4 ∷ run 6 7 ∷ [])
+    ∷ played (tick 5 ∷ tick 5 ∷ []) (said new ∷ said duplicate ∷ []) (run 1 4 ∷ [])
+    ∷ played (tick 0 ∷ []) (refused numberTooLow [] ∷ []) []
+    ∷ played (last 0 ∷ []) (said heard ∷ []) []
+    ∷ played (tick 9223372036854775807 ∷ []) (said new ∷ []) (run 1 9223372036854775806 ∷ [])
     ∷ []

@@ -1,0 +1,8 @@
+pub mod Numbers
+pub mod Cut
+pub mod Grow
+pub mod Pack
+pub mod Sets
+pub mod History
+pub mod Exact
+pub mod Alone

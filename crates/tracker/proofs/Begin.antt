@@ -1,0 +1,39 @@
+-- The walk over a list of channel numbers, and the places that it fills.
+use Prim.Native.Nat.{ℕ, suc, _+_, _-_, _≤_, _<_}
+use native.Mathlib.Omega.{arith}
+use native.Mathlib.Numerals.{add-one}
+use mathlib.Core.Path.{_≡_}
+use mathlib.Core.List.{List, _++_, append-assoc}
+use mathlib.Core.Bool.{true, false}
+use lib.ListN.{length, take, drop, getD, set, replicate}
+use lib.Seq.{drop-cons, drop-length, take-suc, length-take-le, set-at, take-length}
+use borrow.Author.Tests.{le-leb, lt-leb}
+use Rattle.gaps.specs.Built.{padded}
+use Rattle.tracker.specs.SetUp.{ascends}
+
+module _ (l : List ℕ) (i : ℕ) (h : i < length l) (lo : ℕ) where
+  pub ascends-low : getD l i 0 < lo → ascends lo (drop i l) ≡ false
+  unfolding ascends
+  ascends-low p = rw (drop-cons l i 0 h, lt-leb lo (getD l i 0) p)
+
+  pub ascends-pass : lo ≤ getD l i 0 → ascends lo (drop i l) ≡ ascends (getD l i 0 + 1) (drop (i + 1) l)
+  unfolding ascends
+  ascends-pass p = rw (drop-cons l i 0 h, le-leb lo (getD l i 0) p, add-one i)
+
+pub ascends-end : (l : List ℕ) (i : ℕ) (lo : ℕ) → i ≡ length l → ascends lo (drop i l) ≡ true
+unfolding ascends
+ascends-end l i lo e = rw (e, drop-length l)
+
+-- ---- the places that are filled so far
+
+abbrev pub filled : List ℕ → ℕ → List ℕ
+filled l i = take i l ++ replicate (8 - i) 0
+
+pub filled-more : (l : List ℕ) (i : ℕ) → i < length l → i < 8 → set (filled l i) i (getD l i 0) ≡ filled l (i + 1)
+filled-more l i h g =
+    let e : 8 - i ≡ suc (8 - suc i) = omega arith in
+    rw (add-one, take-suc l i 0 h, append-assoc, e)
+    (set-at (take i l) 0 (replicate (8 - suc i) 0) (getD l i 0) i (length-take-le i l (omega arith)))
+
+pub filled-all : (l : List ℕ) (i : ℕ) → i ≡ length l → filled l i ≡ padded 8 l
+filled-all l i e = rw (e, take-length l)

@@ -1,0 +1,360 @@
+-- The tracker that holds a list of channels' records: read, put and within the rules.
+use Prim.Native.Nat.{ℕ, zero, suc, _+_, _*_, _-_, _≤_, _<_}
+use native.Mathlib.Omega.{arith}
+use mathlib.Core.Path.{_≡_, refl, ap, sym, _∙_}
+use mathlib.Core.List.{List, [], _∷_, _++_, append-assoc, map}
+use mathlib.Core.Bool.{Bool, true, false}
+use lib.Dec.{leb}
+use lib.ListN.{length, take, drop, getD, set, replicate, length-append, length-replicate, length-map, length-set, List·getD-append, List·getD-map, replicate-append-replicate}
+use lib.Seq.{sets, sets-eq, set-append-left, take-at, drop-at, drop-cons}
+use borrow.Author.Tests.{le-leb, ne-eqb}
+use Rattle.gaps.specs.declared.Run.{Run}
+use Rattle.gaps.specs.Gaps.{canon}
+use Rattle.gaps.specs.Limits.{mostNumber}
+use Rattle.gaps.specs.Channel.{Channel, fresh}
+use Rattle.gaps.specs.Built.{firsts, lasts, padded}
+use Rattle.gaps.proofs.Numbers.{and-split}
+use Rattle.tracker.specs.declared.Tracker.{Tracker}
+use Rattle.tracker.specs.Places.{span, channel, put}
+use Rattle.tracker.specs.Rules.{allZero, soundRow, soundRows, blank, sound, wellFormed}
+use Rattle.tracker.specs.SetUp.{ascends, blankOf}
+use Rattle.tracker.proofs.Row.{cells, cells-add, cells-length}
+
+-- ---- lists in equal parts
+
+module _ {A : Type 0} where
+  sets-cons : (a : A) (l : List A) (i : ℕ) (q : List A) → sets (a ∷ l) (suc i) q ≡ a ∷ sets l i q
+  sets-cons a l i [] = refl
+  sets-cons a l i (x ∷ q) = sets-cons a (set l i x) (suc i) q
+
+  sets-skip : (p l : List A) (k : ℕ) (q : List A) → sets (p ++ l) (length p + k) q ≡ p ++ sets l k q
+  sets-skip [] l k q = let e : 0 + k ≡ k = omega arith in rw e
+  sets-skip (a ∷ p) l k q =
+      let e : suc (length p) + k ≡ suc (length p + k) = omega arith in
+      rw (e, sets-cons a (p ++ l) (length p + k) q, sets-skip p l k q)
+
+  sets-front : (p l q : List A) → length p ≡ length q → sets (p ++ l) 0 q ≡ q ++ l
+  sets-front p l q e =
+      let d : 0 + length q ≡ length q = omega arith in
+      sets-eq q (p ++ l) 0 (omega (arith, length-append p l)) ∙ rw (d, drop-at p l (length q) e)
+
+  map-set : {B : Type 0} (f : A → B) (l : List A) (i : ℕ) (a : A) → map f (set l i a) ≡ set (map f l) i (f a)
+  map-set f [] i a = refl
+  map-set f (b ∷ l) zero a = refl
+  map-set f (b ∷ l) (suc i) a = rw (map-set f l i a)
+
+  getD-pad : (l : List A) (k i : ℕ) (d : A) → length l ≤ i → getD (l ++ replicate k d) i d ≡ d
+  getD-pad [] zero i d h = refl
+  getD-pad [] (suc k) zero d h = refl
+  getD-pad [] (suc k) (suc i) d h = getD-pad [] k i d (omega arith)
+  getD-pad (a ∷ l) k zero d h = absurd (omega arith)
+  getD-pad (a ∷ l) k (suc i) d h = getD-pad l k i d (omega arith)
+
+cells-cons : (a : ℕ) (l : List ℕ) (b n : ℕ) → cells (a ∷ l) (suc b) n ≡ cells l b n
+cells-cons a l b zero = refl
+cells-cons a l b (suc n) = rw (cells-cons a l (suc b) n)
+
+cells-skip : (p l : List ℕ) (k n : ℕ) → cells (p ++ l) (length p + k) n ≡ cells l k n
+cells-skip [] l k n = let e : 0 + k ≡ k = omega arith in rw e
+cells-skip (a ∷ p) l k n =
+    let e : suc (length p) + k ≡ suc (length p + k) = omega arith in
+    rw (e, cells-cons a (p ++ l) (length p + k) n, cells-skip p l k n)
+
+cells-front : (p l : List ℕ) → cells (p ++ l) 0 (length p) ≡ p
+cells-front [] l = refl
+cells-front (a ∷ p) l = rw (cells-cons a (p ++ l) 0 (length p), cells-front p l)
+
+cells-zero : (k b n : ℕ) → cells (replicate k 0) b n ≡ replicate n 0
+cells-zero k b zero = refl
+cells-zero k b (suc n) = rw (getD-pad {A = ℕ} [] k b 0 (omega arith), cells-zero k (suc b) n)
+
+-- ---- the tracker of these channel numbers and records
+
+-- each record's runs in its row
+abbrev rows : (List Run → List ℕ) → List Channel → List ℕ
+rows g [] = []
+rows g (c ∷ cs) = padded 32 (g (c .runs)) ++ rows g cs
+
+abbrev highs : List Channel → List ℕ
+highs cs = map (λ (c : Channel). c .highest) cs
+
+abbrev marks : List Channel → List Bool
+marks cs = map (λ (c : Channel). c .ended) cs
+
+abbrev sizes : List Channel → List ℕ
+sizes cs = map (λ (c : Channel). length (c .runs)) cs
+
+abbrev pub holder : List ℕ → List Channel → Tracker
+holder ns cs =
+    record {
+      count = length ns;
+      numbers = padded 8 ns;
+      highest = padded 8 (highs cs);
+      ended = marks cs ++ replicate (8 - length (marks cs)) false;
+      counts = padded 8 (sizes cs);
+      first = rows firsts cs ++ replicate (256 - length cs * 32) 0;
+      last = rows lasts cs ++ replicate (256 - length cs * 32) 0;
+    }
+
+-- the record at place i
+abbrev pub at : List Channel → ℕ → Channel
+at cs i = getD cs i (fresh 1)
+
+-- a record within the rules
+pub record Good (c : Channel) : Type 0 where
+  pub small : length (c .runs) ≤ 32
+  pub high : c .highest ≤ mostNumber
+  pub order : canon 1 (c .highest) (c .runs) ≡ true
+
+abbrev pub AllGood : List Channel → Type 0
+AllGood [] = Unit
+AllGood (c ∷ cs) = Good c × AllGood cs
+
+pub good-at : (cs : List Channel) (i : ℕ) → AllGood cs → i < length cs → Good (at cs i)
+good-at [] i g h = absurd (omega arith)
+good-at (c ∷ cs) zero g h = g .0
+good-at (c ∷ cs) (suc i) g h = good-at cs i (g .1) (omega arith)
+
+pub good-set : (cs : List Channel) (i : ℕ) (c : Channel) → AllGood cs → Good c → AllGood (set cs i c)
+good-set [] i c g w = tt
+good-set (d ∷ cs) zero c g w = (w, g .1)
+good-set (d ∷ cs) (suc i) c g w = (g .0, good-set cs i c (g .1) w)
+
+-- ---- one field of the runs
+
+module _ (g : List Run → List ℕ) (same : (l : List Run) → length (g l) ≡ length l) where
+  row-length : (c : Channel) → length (c .runs) ≤ 32 → length (padded 32 (g (c .runs))) ≡ 32
+  row-length c h = length-append (g (c .runs)) _ ∙ rw (length-replicate {A = ℕ} (32 - length (g (c .runs))) 0, same (c .runs)) (omega arith)
+
+  rows-length : (cs : List Channel) → AllGood cs → length (rows g cs) ≡ length cs * 32
+  rows-length [] w = refl
+  rows-length (c ∷ cs) w = length-append (padded 32 (g (c .runs))) (rows g cs) ∙ rw (row-length c (w .0 .small), rows-length cs (w .1)) (omega arith)
+
+  rows-put : (cs : List Channel) (i : ℕ) (c : Channel) (z : List ℕ) → AllGood cs → i < length cs → length (c .runs) ≤ 32 →
+      sets (rows g cs ++ z) (i * 32) (padded 32 (g (c .runs))) ≡ rows g (set cs i c) ++ z
+  rows-put [] i c z w h s = absurd (omega arith)
+  rows-put (d ∷ cs) zero c z w h s =
+      rw (append-assoc (padded 32 (g (d .runs))) (rows g cs) z, append-assoc (padded 32 (g (c .runs))) (rows g cs) z)
+      (sets-front (padded 32 (g (d .runs))) (rows g cs ++ z) (padded 32 (g (c .runs))) (row-length d (w .0 .small) ∙ sym (row-length c s)))
+  rows-put (d ∷ cs) (suc i) c z w h s =
+      let e : suc i * 32 ≡ length (padded 32 (g (d .runs))) + i * 32 = omega (arith, row-length d (w .0 .small)) in
+      rw (append-assoc (padded 32 (g (d .runs))) (rows g cs) z, append-assoc (padded 32 (g (d .runs))) (rows g (set cs i c)) z, e)
+      (sets-skip (padded 32 (g (d .runs))) (rows g cs ++ z) (i * 32) (padded 32 (g (c .runs))) ∙ rw (rows-put cs i c z (w .1) (omega arith) s))
+
+  rows-cells : (cs : List Channel) (i : ℕ) (z : List ℕ) → AllGood cs → i < length cs → cells (rows g cs ++ z) (i * 32) 32 ≡ padded 32 (g (at cs i .runs))
+  rows-cells [] i z w h = absurd (omega arith)
+  rows-cells (c ∷ cs) zero z w h =
+      rw (append-assoc (padded 32 (g (c .runs))) (rows g cs) z)
+      (ap (cells (padded 32 (g (c .runs)) ++ (rows g cs ++ z)) 0) (sym (row-length c (w .0 .small))) ∙ cells-front (padded 32 (g (c .runs))) (rows g cs ++ z))
+  rows-cells (c ∷ cs) (suc i) z w h =
+      let e : suc i * 32 ≡ length (padded 32 (g (c .runs))) + i * 32 = omega (arith, row-length c (w .0 .small)) in
+      rw (append-assoc (padded 32 (g (c .runs))) (rows g cs) z, e)
+      (cells-skip (padded 32 (g (c .runs))) (rows g cs ++ z) (i * 32) 32 ∙ rows-cells cs i z (w .1) (omega arith))
+
+  rows-behind : (cs : List Channel) (k : ℕ) → AllGood cs → cells (rows g cs ++ replicate k 0) (length cs * 32) k ≡ replicate k 0
+  rows-behind cs k w =
+      let e : length cs * 32 ≡ length (rows g cs) + 0 = omega (arith, rows-length cs w) in
+      rw e (cells-skip (rows g cs) (replicate k 0) 0 k ∙ cells-zero k 0 k)
+
+firsts-length : (l : List Run) → length (firsts l) ≡ length l
+firsts-length l = length-map l (λ (r : Run). r .first)
+
+lasts-length : (l : List Run) → length (lasts l) ≡ length l
+lasts-length l = length-map l (λ (r : Run). r .last)
+
+-- ---- a record put in its place
+
+pub holder-put : (ns : List ℕ) (cs : List Channel) (i : ℕ) (c : Channel) → AllGood cs → i < length cs → Good c → put (holder ns cs) i c ≡ holder ns (set cs i c)
+unfolding put
+holder-put ns cs i c w h g =
+    let z = replicate {A = ℕ} (256 - length cs * 32) 0 in
+    let n = length-set cs i c in
+    let a = set-append-left (highs cs) (replicate {A = ℕ} (8 - length (highs cs)) 0) i (c .highest) (rw (length-map cs (λ (d : Channel). d .highest)) h) in
+    let b = set-append-left (marks cs) (replicate (8 - length (marks cs)) false) i (c .ended) (rw (length-map cs (λ (d : Channel). d .ended)) h) in
+    let d = set-append-left (sizes cs) (replicate {A = ℕ} (8 - length (sizes cs)) 0) i (length (c .runs)) (rw (length-map cs (λ (d : Channel). length (d .runs))) h) in
+    rw (
+      a,
+      b,
+      d,
+      rows-put firsts firsts-length cs i c z w h (g .small),
+      rows-put lasts lasts-length cs i c z w h (g .small),
+      map-set (λ (d : Channel). d .highest) cs i c,
+      map-set (λ (d : Channel). d .ended) cs i c,
+      map-set (λ (d : Channel). length (d .runs)) cs i c,
+      length-set (highs cs) i (c .highest),
+      length-set (marks cs) i (c .ended),
+      length-set (sizes cs) i (length (c .runs)),
+      n,
+    )
+
+-- ---- a record read from its place
+
+span-of : (f l : List ℕ) (b : ℕ) (rs : List Run) → cells f b (length rs) ≡ firsts rs → cells l b (length rs) ≡ lasts rs → span f l b (length rs) ≡ rs
+unfolding span
+span-of f l b [] p q = refl
+span-of f l b (r ∷ rs) p q =
+    let x : getD f b 0 ≡ r .first = cc in
+    let y : getD l b 0 ≡ r .last = cc in
+    rw (x, y, span-of f l (suc b) rs (cc) (cc))
+
+-- a row that holds these numbers, zero behind them
+module _ (f : List ℕ) (b : ℕ) (ks : List ℕ) (h : length ks ≤ 32) (p : cells f b 32 ≡ padded 32 ks) where
+  row-split : cells f b 32 ≡ cells f b (length ks) ++ cells f (b + length ks) (32 - length ks)
+  row-split = let e : 32 ≡ length ks + (32 - length ks) = omega arith in ap (cells f b) e ∙ cells-add f b (length ks) (32 - length ks)
+
+  row-front : cells f b (length ks) ≡ ks
+  row-front =
+      sym (take-at (cells f b (length ks)) (cells f (b + length ks) (32 - length ks)) (length ks) (cells-length f b (length ks)))
+      ∙ ap (take (length ks)) (sym row-split ∙ p)
+      ∙ take-at ks (replicate {A = ℕ} (32 - length ks) 0) (length ks) refl
+
+  row-rest : cells f (b + length ks) (32 - length ks) ≡ replicate (32 - length ks) 0
+  row-rest =
+      sym (drop-at (cells f b (length ks)) (cells f (b + length ks) (32 - length ks)) (length ks) (cells-length f b (length ks)))
+      ∙ ap (drop (length ks)) (sym row-split ∙ p)
+      ∙ drop-at ks (replicate {A = ℕ} (32 - length ks) 0) (length ks) refl
+
+zeros-pass : (f l : List ℕ) (b n : ℕ) → cells f b n ≡ replicate n 0 → cells l b n ≡ replicate n 0 → allZero (span f l b n) ≡ true
+unfolding span allZero
+zeros-pass f l b zero p q = refl
+zeros-pass f l b (suc n) p q =
+    let x : getD f b 0 ≡ 0 = cc in
+    let y : getD l b 0 ≡ 0 = cc in
+    rw (x, y, zeros-pass f l (suc b) n (cc) (cc))
+
+module _ (f l : List ℕ) (b : ℕ) (rs : List Run) (s : length rs ≤ 32) (p : cells f b 32 ≡ padded 32 (firsts rs)) (q : cells l b 32 ≡ padded 32 (lasts rs)) where
+  row-runs : span f l b (length rs) ≡ rs
+  row-runs =
+      let x = firsts-length rs in
+      let y = lasts-length rs in
+      span-of f l b rs
+      (ap (cells f b) (sym x) ∙ row-front f b (firsts rs) (omega arith) p)
+      (ap (cells l b) (sym y) ∙ row-front l b (lasts rs) (omega arith) q)
+
+  row-sound : (h : ℕ) → h ≤ mostNumber → canon 1 h rs ≡ true → soundRow h (length rs) f l b ≡ true
+  unfolding soundRow
+  row-sound h m c =
+      let z = zeros-pass f l (b + length rs) (32 - length rs)
+      (rw (firsts-length rs) at (row-rest f b (firsts rs) (omega (arith, firsts-length rs)) p))
+      (rw (lasts-length rs) at (row-rest l b (lasts rs) (omega (arith, lasts-length rs)) q)) in
+      rw (le-leb (length rs) 32 s, le-leb h mostNumber m, row-runs, c, z)
+
+module _ (ns : List ℕ) (cs : List Channel) (w : AllGood cs) where
+  high-at : (i : ℕ) → i < length cs → getD (holder ns cs .highest) i 0 ≡ at cs i .highest
+  high-at i h =
+      List·getD-append (highs cs) (replicate (8 - length (highs cs)) 0) 0 i (rw (length-map cs (λ (d : Channel). d .highest)) h)
+      ∙ List·getD-map (λ (d : Channel). d .highest) cs i (fresh 1)
+
+  size-at : (i : ℕ) → i < length cs → getD (holder ns cs .counts) i 0 ≡ length (at cs i .runs)
+  size-at i h =
+      List·getD-append (sizes cs) (replicate (8 - length (sizes cs)) 0) 0 i (rw (length-map cs (λ (d : Channel). length (d .runs))) h)
+      ∙ List·getD-map (λ (d : Channel). length (d .runs)) cs i (fresh 1)
+
+  mark-at : (i : ℕ) → i < length cs → getD (holder ns cs .ended) i false ≡ at cs i .ended
+  mark-at i h =
+      List·getD-append (marks cs) (replicate (8 - length (marks cs)) false) false i (rw (length-map cs (λ (d : Channel). d .ended)) h)
+      ∙ List·getD-map (λ (d : Channel). d .ended) cs i (fresh 1)
+
+  first-row : (i : ℕ) → i < length cs → cells (holder ns cs .first) (i * 32) 32 ≡ padded 32 (firsts (at cs i .runs))
+  first-row i h = rows-cells firsts firsts-length cs i (replicate (256 - length cs * 32) 0) w h
+
+  last-row : (i : ℕ) → i < length cs → cells (holder ns cs .last) (i * 32) 32 ≡ padded 32 (lasts (at cs i .runs))
+  last-row i h = rows-cells lasts lasts-length cs i (replicate (256 - length cs * 32) 0) w h
+
+  pub holder-channel : (i : ℕ) → i < length cs → channel (holder ns cs) i ≡ at cs i
+  holder-channel i h =
+      let g = good-at cs i w h in
+      rw (high-at i h, mark-at i h, size-at i h, row-runs (holder ns cs .first) (holder ns cs .last) (i * 32) (at cs i .runs) (g .small) (first-row i h) (last-row i h))
+
+  holder-row : (i : ℕ) → i < length cs →
+      soundRow (getD (holder ns cs .highest) i 0) (getD (holder ns cs .counts) i 0) (holder ns cs .first) (holder ns cs .last) (i * 32) ≡ true
+  holder-row i h =
+      let g = good-at cs i w h in
+      rw (high-at i h, size-at i h) (row-sound (holder ns cs .first) (holder ns cs .last) (i * 32) (at cs i .runs) (g .small) (first-row i h) (last-row i h) (at cs i .highest) (g .high) (g .order))
+
+-- ---- within the rules
+
+rows-true : (ms hs ks f l ns : List ℕ) (lo i n : ℕ) → i + n ≡ length ns → ascends lo (drop i ns) ≡ true →
+    ((j : ℕ) → j < length ns → getD ms j 0 ≡ getD ns j 0) → ((j : ℕ) → j < length ns → soundRow (getD hs j 0) (getD ks j 0) f l (j * 32) ≡ true) →
+    soundRows ms hs ks f l lo i n ≡ true
+unfolding soundRows ascends
+rows-true ms hs ks f l ns lo i zero e a p q = refl
+rows-true ms hs ks f l ns lo i (suc n) e a p q =
+    let h : i < length ns = omega arith in
+    let b = and-split (leb lo (getD ns i 0)) _ (rw (drop-cons ns i 0 h) at a) in
+    rw (p i h, b .0, q i h) (rows-true ms hs ks f l ns (getD ns i 0 + 1) (suc i) n (omega arith) (b .1) p q)
+
+blank-true : (ms hs : List ℕ) (es : List Bool) (ks : List ℕ) (i n : ℕ) → ((j : ℕ) → i ≤ j → getD ms j 0 ≡ 0) → ((j : ℕ) → i ≤ j → getD hs j 0 ≡ 0) →
+    ((j : ℕ) → i ≤ j → getD es j false ≡ false) → ((j : ℕ) → i ≤ j → getD ks j 0 ≡ 0) → blank ms hs es ks i n ≡ true
+unfolding blank
+blank-true ms hs es ks i zero p q r s = refl
+blank-true ms hs es ks i (suc n) p q r s =
+    rw (p i (omega arith), q i (omega arith), r i (omega arith), s i (omega arith))
+    (blank-true ms hs es ks (suc i) n (λ j h. p j (omega arith)) (λ j h. q j (omega arith)) (λ j h. r j (omega arith)) (λ j h. s j (omega arith)))
+
+-- a list of numbers that a set-up takes
+pub record Listed (ns : List ℕ) : Type 0 where
+  pub some : 1 ≤ length ns
+  pub most : length ns ≤ 8
+  pub order : ascends 0 ns ≡ true
+
+pub holder-well : (ns : List ℕ) (cs : List Channel) → Listed ns → length cs ≡ length ns → AllGood cs → wellFormed (holder ns cs) ≡ true
+unfolding wellFormed sound
+holder-well ns cs o e w =
+    let t = holder ns cs in
+    let n = length ns in
+    let d : n * 32 ≡ length cs * 32 = ap (λ (k : ℕ). k * 32) (sym e) in
+    let r = rows-true (t .numbers) (t .highest) (t .counts) (t .first) (t .last) ns 0 0 n (omega arith) (o .order)
+    (λ j h. List·getD-append ns (replicate (8 - length ns) 0) 0 j h)
+    (λ j h. holder-row ns cs w j (omega arith)) in
+    let b = blank-true (t .numbers) (t .highest) (t .ended) (t .counts) n (8 - n)
+    (λ j h. getD-pad ns (8 - length ns) j 0 h)
+    (λ j h. getD-pad (highs cs) (8 - length (highs cs)) j 0 (omega (arith, length-map cs (λ (c : Channel). c .highest))))
+    (λ j h. getD-pad (marks cs) (8 - length (marks cs)) j false (omega (arith, length-map cs (λ (c : Channel). c .ended))))
+    (λ j h. getD-pad (sizes cs) (8 - length (sizes cs)) j 0 (omega (arith, length-map cs (λ (c : Channel). length (c .runs))))) in
+    let z = zeros-pass (t .first) (t .last) (length cs * 32) (256 - length cs * 32)
+    (rows-behind firsts firsts-length cs (256 - length cs * 32) w)
+    (rows-behind lasts lasts-length cs (256 - length cs * 32) w) in
+    rw (ne-eqb n 0 (omega (arith, o .some)), le-leb n 8 (o .most), r, b, d, z)
+
+-- ---- the tracker that a set-up gives
+
+good-fresh : Good (fresh 1)
+unfolding canon
+good-fresh = record { small = omega arith; high = omega arith; order = refl }
+
+pub good-start : (n : ℕ) → AllGood (replicate n (fresh 1))
+good-start zero = tt
+good-start (suc n) = (good-fresh, good-start n)
+
+map-replicate : {A B : Type 0} (f : A → B) (n : ℕ) (a : A) → map f (replicate n a) ≡ replicate n (f a)
+map-replicate f zero a = refl
+map-replicate f (suc n) a = rw (map-replicate f n a)
+
+pad-zeros : {A : Type 0} (n k : ℕ) (a : A) → n ≤ k → replicate n a ++ replicate (k - length (replicate n a)) a ≡ replicate k a
+pad-zeros n k a h =
+    let e : n + (k - n) ≡ k = omega arith in
+    rw (length-replicate n a) (replicate-append-replicate n (k - n) a ∙ ap (λ (m : ℕ). replicate m a) e)
+
+rows-start : (g : List Run → List ℕ) → g [] ≡ [] → (n : ℕ) → rows g (replicate n (fresh 1)) ≡ replicate (n * 32) 0
+rows-start g p zero = refl
+rows-start g p (suc n) =
+    let e : 32 + n * 32 ≡ suc n * 32 = omega arith in
+    rw (p, rows-start g p n, ← e) (replicate-append-replicate {A = ℕ} 32 (n * 32) 0)
+
+pub holder-start : (ns : List ℕ) → length ns ≤ 8 → blankOf ns ≡ holder ns (replicate (length ns) (fresh 1))
+holder-start ns h =
+    let n = length ns in
+    let e : n * 32 + (256 - n * 32) ≡ 256 = omega arith in
+    let z : replicate (n * 32) 0 ++ replicate (256 - n * 32) 0 ≡ replicate {A = ℕ} 256 0 = replicate-append-replicate {A = ℕ} (n * 32) (256 - n * 32) 0 ∙ ap (λ (m : ℕ). replicate m 0) e in
+    rw (
+      map-replicate (λ (c : Channel). c .highest) n (fresh 1),
+      map-replicate (λ (c : Channel). c .ended) n (fresh 1),
+      map-replicate (λ (c : Channel). length (c .runs)) n (fresh 1),
+      rows-start firsts refl n,
+      rows-start lasts refl n,
+      length-replicate n (fresh 1),
+      pad-zeros {A = ℕ} n 8 0 h,
+      pad-zeros n 8 false h,
+      z,
+    )

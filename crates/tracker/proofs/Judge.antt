@@ -1,0 +1,309 @@
+-- A channel's judgement in the tracker, in each of the code's cases.
+use Prim.Native.Nat.{ℕ, zero, suc, _+_, _*_, _-_, _≤_, _<_, zero-le}
+use native.Mathlib.Omega.{arith}
+use mathlib.Core.Path.{_≡_, refl, ap, sym, _∙_}
+use mathlib.Core.Logic.{inl, inr}
+use mathlib.Core.List.{List, [], _∷_, _++_}
+use mathlib.Core.Bool.{Bool, true, false, cond, _||_}
+use lib.Dec.{ltb}
+use lib.IntN.{ℤ, pos}
+use lib.Signed.{ltZ}
+use lib.ListN.{length, take, drop, getD, set, length-append, length-set}
+use lib.Seq.{sets, set-split, set-getD, length-take-le}
+use borrow.Author.Tests.{lt-ltb, le-ltb, lt-leb, le-leb, ltb-true, ltb-false}
+use Rattle.wire.specs.Answer.{Answer, accepted, refused, guard}
+use Rattle.gaps.specs.declared.Run.{Run}
+use Rattle.gaps.specs.declared.Runs.{Runs}
+use Rattle.gaps.specs.Gaps.{run, larger, has, cut, cutAll, grow, fill}
+use Rattle.wire.specs.Refusal.{numberTooLow, tableFull}
+use Rattle.gaps.specs.Channel.{Channel, Event, tick, heartbeat, Said, new, late, duplicate, heard, announced, taken, tooLow, judged, natural}
+use Rattle.gaps.specs.Built.{packed}
+use Rattle.gaps.proofs.Numbers.{larger-is}
+use Rattle.gaps.proofs.Pack.{packed-fits}
+use Rattle.gaps.proofs.Cut.{cut-low, cut-high}
+use Rattle.gaps.proofs.Sets.{Canon, canon-yes}
+use Rattle.gaps.proofs.Exact.{ticked-new, ticked-late, ticked-again}
+use Rattle.gaps.proofs.Alone.{judged-low}
+use Rattle.tracker.specs.declared.Tracker.{Tracker}
+use Rattle.tracker.specs.declared.Gap.{Gap}
+use Rattle.tracker.specs.Places.{channel, put}
+use Rattle.tracker.specs.declared.Seat.{Seat}
+use Rattle.tracker.specs.declared.Seat.the-variants.{At}
+use Rattle.tracker.specs.Arrived.{on, settled, arrived}
+use Rattle.tracker.specs.declared.Held.{Held}
+use Rattle.tracker.specs.declared.Held.the-variants.{No, AtEnd, Within}
+use Rattle.tracker.specs.Inside.{stored, Room, Finds, finds-no, finds-end, finds-within}
+use Rattle.tracker.proofs.Row.{span-length, span-at}
+use Rattle.tracker.proofs.Hold.{held-at}
+use Rattle.tracker.proofs.Signed.{natural-one, natural-pos}
+use Rattle.tracker.proofs.Seated.{seatIn, seat-at}
+use Rattle.tracker.proofs.Put.{RowOf, mended, put-pushed, put-set, put-runs, put-same, kept-within}
+
+-- the tracker with another run at one place
+abbrev pub replaced : Tracker → ℕ → ℕ → ℕ → Tracker
+replaced t p first last =
+    record {
+      count = t .count;
+      numbers = t .numbers;
+      highest = t .highest;
+      ended = t .ended;
+      counts = t .counts;
+      first = set (t .first) p first;
+      last = set (t .last) p last;
+    }
+
+-- ---- stored: 9, or the record
+
+module _ (t : Tracker) (i : ℕ) (a : Answer Said) (h : ℕ) (e : Bool) (l : List Run) where
+  pub stored-full : 32 < length l → stored t i a h e l ≡ record { said = refused tableFull []; next = t }
+  unfolding stored
+  stored-full p = rw (lt-ltb 32 (length l) p)
+
+  pub stored-fits : length l ≤ 32 → stored t i a h e l ≡ record { said = a; next = put t i (record { highest = h; ended = e; runs = l }) }
+  unfolding stored
+  stored-fits p = rw (le-ltb 32 (length l) p)
+
+-- an event that 8 does not refuse
+settled-stored : (t : Tracker) (i : ℕ) (c : Channel) (e : Event) → tooLow e ≡ false →
+    settled t i (judged c e) ≡ stored t i (accepted (taken c e .said)) (taken c e .next .highest) (taken c e .next .ended) (taken c e .next .runs)
+unfolding judged stored guard
+settled-stored t i c e p = rw p (go (ltb 32 (length (taken c e .next .runs))))
+  where
+    go : (b : Bool) → settled t i (guard b (refused tableFull []) (accepted (taken c e))) ≡
+        cond b (record { said = refused tableFull []; next = t }) (record { said = accepted (taken c e .said); next = put t i (taken c e .next) })
+    go true = refl
+    go false = refl
+
+pub settled-low : (t : Tracker) (i : ℕ) (c : Channel) (e : Event) → tooLow e ≡ true → settled t i (judged c e) ≡ record { said = refused numberTooLow []; next = t }
+settled-low t i c e p = ap (settled t i) (judged-low c e p)
+
+-- ---- a run's place in the row, where it is grown
+
+-- nothing to add, so the runs stay
+fill-none : (l : List Run) (h m : ℕ) → m ≤ h → fill l h m ≡ l
+unfolding fill
+fill-none l h m p = rw (le-leb m h p)
+
+fill-some : (l : List Run) (h m : ℕ) → h < m → fill l h m ≡ grow l h m
+unfolding fill
+fill-some l h m p = rw (lt-leb m h p)
+
+module _ (t : Tracker) (i : ℕ) (w : RowOf t i) where
+  -- the numbers behind the highest go to one place of the row
+  pub raised : (a : Answer Said) (top : ℕ) (e : Bool) (m : ℕ) (g : Gap) → Room (t .first) (t .last) (i * 32) (getD (t .counts) i 0) (getD (t .highest) i 0) g →
+      stored t i a top e (grow (channel t i .runs) (channel t i .highest) m) ≡ record { said = a; next = mended t i top e (g .at + 1) (i * 32 + g .at) (run (g .first) m) }
+  raised a top e m g r =
+      let l = take (g .at) (channel t i .runs) ++ (run (g .first) m ∷ []) in
+      let n : length l ≤ 32 = rw (length-append (take (g .at) (channel t i .runs)) (run (g .first) m ∷ []), length-take-le (g .at) (channel t i .runs) (rw (span-length (t .first) (t .last) (i * 32) (getD (t .counts) i 0)) (r .low))) (omega (arith, r .within)) in
+      rw (r .grown m, stored-fits t i a top e l n, put-pushed t i w top e (g .at) (run (g .first) m) (r .low) (r .high) (r .within))
+
+  runs-fit : length (channel t i .runs) ≤ 32
+  runs-fit = rw (span-length (t .first) (t .last) (i * 32) (getD (t .counts) i 0)) (w .room)
+
+  module _ (n : ℕ) (p : 1 ≤ n) where
+    in-range : tooLow (tick (pos n)) ≡ false
+    in-range = le-ltb n 1 p
+
+    ahead : getD (t .highest) i 0 < n → settled t i (judged (channel t i) (tick (pos n))) ≡
+        stored t i (accepted new) n (channel t i .ended) (fill (channel t i .runs) (channel t i .highest) (n - 1))
+    ahead h = settled-stored t i (channel t i) (tick (pos n)) in-range ∙ rw (ticked-new (channel t i) n h)
+
+    -- the next number: the highest alone changes
+    pub tick-next : getD (t .highest) i 0 ≡ n - 1 → settled t i (judged (channel t i) (tick (pos n))) ≡
+        record {
+          said = accepted new;
+          next = record {
+            count = t .count;
+            numbers = t .numbers;
+            highest = set (t .highest) i n;
+            ended = t .ended;
+            counts = t .counts;
+            first = t .first;
+            last = t .last;
+          };
+        }
+    tick-next h =
+        ahead (omega arith)
+        ∙ rw (fill-none (channel t i .runs) (channel t i .highest) (n - 1) (omega arith), stored-fits t i (accepted new) n (channel t i .ended) (channel t i .runs) runs-fit, put-runs t i w n (channel t i .ended), set-getD (t .ended) i false)
+
+    pub tick-ahead : getD (t .highest) i 0 < n - 1 → settled t i (judged (channel t i) (tick (pos n))) ≡
+        stored t i (accepted new) n (channel t i .ended) (grow (channel t i .runs) (channel t i .highest) (n - 1))
+    tick-ahead h = ahead (omega arith) ∙ rw (fill-some (channel t i .runs) (channel t i .highest) (n - 1) h)
+
+    pub tick-late : n ≤ getD (t .highest) i 0 → has (channel t i .runs) n ≡ true → settled t i (judged (channel t i) (tick (pos n))) ≡
+        stored t i (accepted late) (channel t i .highest) (channel t i .ended) (cutAll (channel t i .runs) n)
+    tick-late h q = settled-stored t i (channel t i) (tick (pos n)) in-range ∙ rw (ticked-late (channel t i) n h q)
+
+    pub tick-again : n ≤ getD (t .highest) i 0 → has (channel t i .runs) n ≡ false → settled t i (judged (channel t i) (tick (pos n))) ≡ record { said = accepted duplicate; next = t }
+    tick-again h q =
+        settled-stored t i (channel t i) (tick (pos n)) in-range
+        ∙ rw (ticked-again (channel t i) n h q, stored-fits t i (accepted duplicate) (channel t i .highest) (channel t i .ended) (channel t i .runs) runs-fit, put-same t i w)
+
+  module _ (m : ℕ) (end : Bool) where
+    heard-at : settled t i (judged (channel t i) (heartbeat (pos m) end)) ≡
+        stored t i (accepted heard) (larger (channel t i .highest) m) (channel t i .ended || end) (fill (channel t i .runs) (channel t i .highest) m)
+    unfolding announced
+    heard-at = settled-stored t i (channel t i) (heartbeat (pos m) end) (le-ltb m 0 zero-le)
+
+    pub heard-ahead : getD (t .highest) i 0 < m → settled t i (judged (channel t i) (heartbeat (pos m) end)) ≡
+        stored t i (accepted heard) m (channel t i .ended || end) (grow (channel t i .runs) (channel t i .highest) m)
+    heard-ahead h = heard-at ∙ rw (fill-some (channel t i .runs) (channel t i .highest) m h, larger-is (channel t i .highest) m m (omega arith) (omega arith) (inr refl))
+
+    -- nothing new is announced: the mark alone may change
+    pub heard-behind : m ≤ getD (t .highest) i 0 → settled t i (judged (channel t i) (heartbeat (pos m) end)) ≡
+        record {
+          said = accepted heard;
+          next = record {
+            count = t .count;
+            numbers = t .numbers;
+            highest = t .highest;
+            ended = set (t .ended) i (channel t i .ended || end);
+            counts = t .counts;
+            first = t .first;
+            last = t .last;
+          };
+        }
+    heard-behind h =
+        heard-at
+        ∙ rw (
+          fill-none (channel t i .runs) (channel t i .highest) m h,
+          larger-is (channel t i .highest) m (channel t i .highest) (omega arith) h (inl refl),
+          stored-fits t i (accepted heard) (channel t i .highest) (channel t i .ended || end) (channel t i .runs) runs-fit,
+          put-runs t i w (channel t i .highest) (channel t i .ended || end),
+          set-getD (t .highest) i 0,
+        )
+
+-- ---- a late number at an end of its run
+
+canon-ge : (lo h : ℕ) (l : List Run) (j : ℕ) → Canon lo h l → j < length l → lo ≤ getD l j (run 0 0) .first
+canon-ge lo h [] j c m = absurd (omega arith)
+canon-ge lo h (r ∷ l) zero c m = c .0
+canon-ge lo h (r ∷ l) (suc j) c m = omega (arith, c .0, c .1, canon-ge (r .last + 2) h l j (c .3) (omega arith))
+
+cut-above : (lo h : ℕ) (l : List Run) (n : ℕ) → Canon lo h l → n < lo → cutAll l n ≡ l
+unfolding cutAll
+cut-above lo h [] n c m = refl
+cut-above lo h (r ∷ l) n c m = rw (cut-low r n (omega (arith, c .0)), cut-above (r .last + 2) h l n (c .3) (omega (arith, c .0, c .1)))
+
+-- only the run that holds n is cut
+cut-at : (lo h : ℕ) (l : List Run) (j n : ℕ) → Canon lo h l → j < length l → getD l j (run 0 0) .first ≤ n → n ≤ getD l j (run 0 0) .last →
+    cutAll l n ≡ take j l ++ (cut (getD l j (run 0 0)) n ++ drop (suc j) l)
+unfolding cutAll
+cut-at lo h [] j n c m f g = absurd (omega arith)
+cut-at lo h (r ∷ l) zero n c m f g = rw (cut-above (r .last + 2) h l n (c .3) (omega arith))
+cut-at lo h (r ∷ l) (suc j) n c m f g =
+    let q = canon-ge (r .last + 2) h l j (c .3) (omega arith) in
+    rw (cut-high r n (omega (arith, c .1, q)) (omega (arith, q)), cut-at (r .last + 2) h l j n (c .3) (omega arith) f g)
+
+module _ (t : Tracker) (i n j : ℕ) (x : Run) (w : RowOf t i) (m : j < getD (t .counts) i 0) where
+  -- the run at place j is left as another
+  pub tick-end : getD (t .first) (i * 32 + j) 0 ≤ n → n ≤ getD (t .last) (i * 32 + j) 0 →
+      cut (run (getD (t .first) (i * 32 + j) 0) (getD (t .last) (i * 32 + j) 0)) n ≡ x ∷ [] →
+      stored t i (accepted late) (channel t i .highest) (channel t i .ended) (cutAll (channel t i .runs) n) ≡
+      record { said = accepted late; next = replaced t (i * 32 + j) (x .first) (x .last) }
+  tick-end f g k =
+      let l = channel t i .runs in
+      let s = span-length (t .first) (t .last) (i * 32) (getD (t .counts) i 0) in
+      let a = span-at (t .first) (t .last) (i * 32) (getD (t .counts) i 0) j m in
+      let c : cutAll l n ≡ set l j x =
+      cut-at 1 (channel t i .highest) l j n (canon-yes 1 (channel t i .highest) l (w .order)) (rw s m) (rw a f) (rw a g)
+      ∙ rw (a, k) (sym (set-split l j x (rw s m))) in
+      rw (
+        c,
+        stored-fits t i (accepted late) (channel t i .highest) (channel t i .ended) (set l j x) (rw (length-set l j x, s) (w .room)),
+        put-set t i w (channel t i .highest) (channel t i .ended) j x m,
+        set-getD (t .highest) i 0,
+        set-getD (t .ended) i false,
+        set-getD (t .counts) i 0,
+      )
+
+-- ---- a number that leaves its run through the builder
+
+full-is : (l : List Run) (b : Runs) → b ≡ packed l → b .full ≡ ltb 32 (length l)
+unfolding packed
+full-is l b q = ap (λ (x : Runs). x .full) q
+
+module _ (t : Tracker) (i : ℕ) (a : Answer Said) (l : List Run) (b : Runs) (q : b ≡ packed l) where
+  pub built-full : (h : ℕ) (e : Bool) → b .full ≡ true → stored t i a h e l ≡ record { said = refused tableFull []; next = t }
+  built-full h e p = stored-full t i a h e l (ltb-true 32 (length l) (sym (full-is l b q) ∙ p))
+
+  pub built-fits : (f k : List ℕ) → b .full ≡ false → f ≡ sets (t .first) (i * 32) (b .first) → k ≡ sets (t .last) (i * 32) (b .last) →
+      stored t i a (channel t i .highest) (channel t i .ended) l ≡
+      record {
+        said = a;
+        next = record {
+          count = t .count;
+          numbers = t .numbers;
+          highest = t .highest;
+          ended = t .ended;
+          counts = set (t .counts) i (b .count);
+          first = f;
+          last = k;
+        };
+      }
+  unfolding put
+  built-fits f k p x y =
+      let n : length l ≤ 32 = ltb-false 32 (length l) (sym (full-is l b q) ∙ p) in
+      stored-fits t i a (channel t i .highest) (channel t i .ended) l n
+      ∙ rw (x, y, q, packed-fits l n, set-getD (t .highest) i 0, set-getD (t .ended) i false)
+
+-- ---- a number that is not above the highest, by what the search found
+
+module _ (t : Tracker) (i n : ℕ) (w : RowOf t i) (p : 1 ≤ n) (h : n ≤ getD (t .highest) i 0) (s : Held)
+    (q : Finds (t .first) (t .last) (i * 32) (getD (t .counts) i 0) n s) where
+  pub behind-no : s ≡ No → settled t i (judged (channel t i) (tick (pos n))) ≡ record { said = accepted duplicate; next = t }
+  behind-no e = go s q e
+    where
+      go : (s : Held) → Finds (t .first) (t .last) (i * 32) (getD (t .counts) i 0) n s → s ≡ No → settled t i (judged (channel t i) (tick (pos n))) ≡ record { said = accepted duplicate; next = t }
+      go s (finds-no a) e = tick-again t i w n p h a
+      go s (finds-end j x m a b c) e = absurd (let z : _≡_ {A = ℕ} 0 1 = cc in omega arith)
+      go s (finds-within a) e = absurd (let z : _≡_ {A = ℕ} 0 1 = cc in omega arith)
+
+  pub behind-within : s ≡ Within → settled t i (judged (channel t i) (tick (pos n))) ≡
+      stored t i (accepted late) (channel t i .highest) (channel t i .ended) (cutAll (channel t i .runs) n)
+  behind-within e = go s q e
+    where
+      go : (s : Held) → Finds (t .first) (t .last) (i * 32) (getD (t .counts) i 0) n s → s ≡ Within → settled t i (judged (channel t i) (tick (pos n))) ≡
+          stored t i (accepted late) (channel t i .highest) (channel t i .ended) (cutAll (channel t i .runs) n)
+      go s (finds-no a) e = absurd (let z : _≡_ {A = ℕ} 0 1 = cc in omega arith)
+      go s (finds-end j x m a b c) e = absurd (let z : _≡_ {A = ℕ} 0 1 = cc in omega arith)
+      go s (finds-within a) e = tick-late t i w n p h a
+
+  -- the place is the row's, and the two numbers there change
+  pub behind-end : (at first last : ℕ) → s ≡ AtEnd at first last → (at < i * 32 + 32) × (settled t i (judged (channel t i) (tick (pos n))) ≡
+      record { said = accepted late; next = replaced t at first last })
+  behind-end at first last e = go s q e
+    where
+      Left : ℕ → ℕ → ℕ → Type 0
+      Left at first last = (at < i * 32 + 32) × (settled t i (judged (channel t i) (tick (pos n))) ≡
+          record { said = accepted late; next = replaced t at first last })
+
+      go : (s : Held) → Finds (t .first) (t .last) (i * 32) (getD (t .counts) i 0) n s → s ≡ AtEnd at first last → Left at first last
+      go s (finds-no a) e = absurd (let z : _≡_ {A = ℕ} 0 1 = cc in omega arith)
+      go s (finds-end j x m a b c) e =
+          let k : i * 32 + j ≡ at = cc in
+          let f : x .first ≡ first = cc in
+          let l : x .last ≡ last = cc in
+          let y : Left (i * 32 + j) (x .first) (x .last) = (
+            omega (arith, w .room),
+            tick-late t i w n p h (held-at (t .first) (t .last) (i * 32) (getD (t .counts) i 0) j n m a b) ∙ tick-end t i n j x w m a b c,
+          ) in
+          rw (k, f, l) at y
+      go s (finds-within a) e = absurd (let z : _≡_ {A = ℕ} 0 1 = cc in omega arith)
+
+-- ---- from a channel's seat to its judgement, for numbers as the code holds them
+
+module _ (t : Tracker) (k : ℕ) (s : Seat) (q : s ≡ seatIn t k) (i : ℕ) (r : s ≡ At i) where
+  pub seat-row : RowOf t i × (i < 8)
+  seat-row = let a = seat-at t k (tick (pos 0)) s q i r .0 in (kept-within t i a, a .place)
+
+  pub tick-seat : (z : ℤ) (n : ℕ) → n ≡ natural z → 1 ≤ n → arrived t (on k (tick z)) ≡ settled t i (judged (channel t i) (tick (pos n)))
+  tick-seat z n e p =
+      let d : z ≡ pos n = natural-one z (rw e at p) ∙ ap pos (sym e) in
+      seat-at t k (tick z) s q i r .1 ∙ ap (λ (y : ℤ). settled t i (judged (channel t i) (tick y))) d
+
+  pub heartbeat-seat : (z : ℤ) (end : Bool) (m : ℕ) → m ≡ natural z → ltZ z (pos 0) ≡ false →
+      arrived t (on k (heartbeat z end)) ≡ settled t i (judged (channel t i) (heartbeat (pos m) end))
+  heartbeat-seat z end m e p =
+      let d : z ≡ pos m = natural-pos z p ∙ ap pos (sym e) in
+      seat-at t k (heartbeat z end) s q i r .1 ∙ ap (λ (y : ℤ). settled t i (judged (channel t i) (heartbeat y end))) d

@@ -1,0 +1,12 @@
+pub mod Signed
+pub mod Span
+pub mod Heads
+pub mod Row
+pub mod Begin
+pub mod Hold
+pub mod Room
+pub mod Put
+pub mod Seated
+pub mod Judge
+pub mod Unique
+pub mod Holder

@@ -1,0 +1,114 @@
+-- What a channel's seat tells of the tracker, and the refusals in their order.
+use Prim.Native.Nat.{ℕ, zero, suc, _+_, _*_, _≤_, _<_}
+use native.Mathlib.Omega.{arith}
+use mathlib.Core.Path.{_≡_, refl, sym, _∙_}
+use mathlib.Core.List.{List, []}
+use mathlib.Core.Bool.{Bool, true, false, cond, not}
+use lib.Dec.{leb, eqb, ltb}
+use lib.ListN.{getD}
+use borrow.Author.Tests.{leb-true, ltb-true, ltb-false, lt-ltb, le-ltb}
+use Rattle.wire.specs.Answer.{refused, guard}
+use Rattle.wire.specs.Refusal.{noSuchChannel, malformed}
+use Rattle.gaps.specs.Channel.{Event, judged}
+use Rattle.gaps.proofs.Numbers.{and-split}
+use Rattle.tracker.specs.declared.Tracker.{Tracker}
+use Rattle.tracker.specs.declared.Seat.{Seat}
+use Rattle.tracker.specs.declared.Seat.the-variants.{Malformed, NotInTracker, At}
+use Rattle.tracker.specs.Places.{channel}
+use Rattle.tracker.specs.Rules.{soundRow, soundRows, sound, wellFormed}
+use Rattle.tracker.specs.Arrived.{on, place, settled, arrived}
+use Rattle.tracker.specs.Inside.{Kept, seatOf}
+
+rows-at : (ns hs cs f l : List ℕ) (lo i n j : ℕ) → soundRows ns hs cs f l lo i n ≡ true → j < n →
+    soundRow (getD hs (i + j) 0) (getD cs (i + j) 0) f l ((i + j) * 32) ≡ true
+unfolding soundRows
+rows-at ns hs cs f l lo i zero j e h = absurd (omega arith)
+rows-at ns hs cs f l lo i (suc n) zero e h =
+    let g : i + 0 ≡ i = omega arith in
+    rw g (and-split (soundRow (getD hs i 0) (getD cs i 0) f l (i * 32)) _ (and-split (leb lo (getD ns i 0)) _ e .1) .0)
+rows-at ns hs cs f l lo i (suc n) (suc j) e h =
+    let g : i + suc j ≡ suc i + j = omega arith in
+    rw g (rows-at ns hs cs f l (getD ns i 0 + 1) (suc i) n j (and-split (soundRow (getD hs i 0) (getD cs i 0) f l (i * 32)) _ (and-split (leb lo (getD ns i 0)) _ e .1) .1) (omega arith))
+
+pub sound-count : (count : ℕ) (ns hs : List ℕ) (es : List Bool) (cs f l : List ℕ) → sound count ns hs es cs f l ≡ true → count ≤ 8
+unfolding sound
+sound-count count ns hs es cs f l e = leb-true count 8 (and-split (leb count 8) _ (and-split (not (eqb count 0)) _ e .1) .0)
+
+module _ (t : Tracker) (e : wellFormed t ≡ true) where
+  pub well-count : t .count ≤ 8
+  unfolding wellFormed
+  well-count = sound-count (t .count) (t .numbers) (t .highest) (t .ended) (t .counts) (t .first) (t .last) e
+
+  pub well-row : (i : ℕ) → i < t .count → Kept t i
+  unfolding wellFormed sound
+  well-row i h =
+      let r = and-split (soundRows (t .numbers) (t .highest) (t .counts) (t .first) (t .last) 0 0 (t .count)) _ (and-split (leb (t .count) 8) _ (and-split (not (eqb (t .count) 0)) _ e .1) .1) .0 in
+      let g : 0 + i ≡ i = omega arith in
+      record {
+        place = omega (arith, well-count);
+        row = rw g at (rows-at (t .numbers) (t .highest) (t .counts) (t .first) (t .last) 0 0 (t .count) i r h);
+      }
+
+-- ---- the refusals in their order
+
+module _ (t : Tracker) (k : ℕ) (e : Event) where
+  pub arrived-10 : wellFormed t ≡ false → arrived t (on k e) ≡ record { said = refused malformed []; next = t }
+  unfolding arrived guard
+  arrived-10 p = rw p
+
+  pub arrived-7 : wellFormed t ≡ true → t .count ≤ place t k → arrived t (on k e) ≡ record { said = refused noSuchChannel []; next = t }
+  unfolding arrived guard
+  arrived-7 p q = rw (p, le-ltb (place t k) (t .count) q)
+
+  pub arrived-at : wellFormed t ≡ true → place t k < t .count → arrived t (on k e) ≡ settled t (place t k) (judged (channel t (place t k)) e)
+  unfolding arrived guard
+  arrived-at p q = rw (p, lt-ltb (place t k) (t .count) q)
+
+-- ---- a seat
+
+abbrev pub seatIn : Tracker → ℕ → Seat
+seatIn t k = seatOf k (t .count) (t .numbers) (t .highest) (t .ended) (t .counts) (t .first) (t .last)
+
+-- what each seat tells
+pub data Sits (t : Tracker) (k : ℕ) : Seat → Type 0 where
+  sits-10 : wellFormed t ≡ false → Sits t k Malformed
+  sits-7 : wellFormed t ≡ true → t .count ≤ place t k → Sits t k NotInTracker
+  sits-at : wellFormed t ≡ true → place t k < t .count → Sits t k (At (place t k))
+
+pub sits : (t : Tracker) (k : ℕ) → Sits t k (seatIn t k)
+unfolding seatOf wellFormed place
+sits t k = go (wellFormed t) refl (ltb (place t k) (t .count)) refl
+  where
+    go : (a : Bool) → wellFormed t ≡ a → (b : Bool) → ltb (place t k) (t .count) ≡ b → Sits t k (cond a (cond b (At (place t k)) NotInTracker) Malformed)
+    go true p true q = sits-at p (ltb-true (place t k) (t .count) q)
+    go true p false q = sits-7 p (ltb-false (place t k) (t .count) q)
+    go false p b q = sits-10 p
+
+module _ (t : Tracker) (k : ℕ) (e : Event) (s : Seat) (q : s ≡ seatIn t k) where
+  pub seat-10 : s ≡ Malformed → arrived t (on k e) ≡ record { said = refused malformed []; next = t }
+  seat-10 p = go (seatIn t k) (sits t k) (sym q ∙ p)
+    where
+      go : (r : Seat) → Sits t k r → r ≡ Malformed → arrived t (on k e) ≡ record { said = refused malformed []; next = t }
+      go r (sits-10 a) p = arrived-10 t k e a
+      go r (sits-7 a b) p = absurd (let z : _≡_ {A = ℕ} 0 1 = cc in omega arith)
+      go r (sits-at a b) p = absurd (let z : _≡_ {A = ℕ} 0 1 = cc in omega arith)
+
+  pub seat-7 : s ≡ NotInTracker → arrived t (on k e) ≡ record { said = refused noSuchChannel []; next = t }
+  seat-7 p = go (seatIn t k) (sits t k) (sym q ∙ p)
+    where
+      go : (r : Seat) → Sits t k r → r ≡ NotInTracker → arrived t (on k e) ≡ record { said = refused noSuchChannel []; next = t }
+      go r (sits-10 a) p = absurd (let z : _≡_ {A = ℕ} 0 1 = cc in omega arith)
+      go r (sits-7 a b) p = arrived-7 t k e a b
+      go r (sits-at a b) p = absurd (let z : _≡_ {A = ℕ} 0 1 = cc in omega arith)
+
+  -- the channel is there: its row keeps the rules, and the answer is the channel's
+  pub seat-at : (i : ℕ) → s ≡ At i → Kept t i × (arrived t (on k e) ≡ settled t i (judged (channel t i) e))
+  seat-at i p = go (seatIn t k) (sits t k) (sym q ∙ p)
+    where
+      go : (r : Seat) → Sits t k r → r ≡ At i → Kept t i × (arrived t (on k e) ≡ settled t i (judged (channel t i) e))
+      go r (sits-10 a) p = absurd (let z : _≡_ {A = ℕ} 0 1 = cc in omega arith)
+      go r (sits-7 a b) p = absurd (let z : _≡_ {A = ℕ} 0 1 = cc in omega arith)
+      go r (sits-at a b) p =
+          let z : place t k ≡ i = cc in
+          let y : Kept t (place t k) × (arrived t (on k e) ≡ settled t (place t k) (judged (channel t (place t k)) e)) = (well-row t a (place t k) b, arrived-at t k e a b) in
+          rw z at y

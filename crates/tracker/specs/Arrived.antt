@@ -1,0 +1,66 @@
+-- "Each arrival takes the tracker and gives back the next one": the refusals in their order, then the channel's step.
+use Prim.Native.Nat.{ℕ, zero, suc}
+use mathlib.Core.List.{List, []}
+use mathlib.Core.Bool.{cond, not}
+use lib.Dec.{ltb, eqb}
+use lib.ListN.{getD}
+use Rattle.wire.specs.Answer.{Answer, accepted, refused, guard}
+use Rattle.wire.specs.Refusal.{noSuchChannel, numberTooLow, tableFull, malformed}
+use Rattle.gaps.specs.Channel.{Event, Said, new, late, duplicate, heard, Step, judged}
+use Rattle.tracker.specs.declared.Tracker.{Tracker}
+use Rattle.tracker.specs.declared.Verdict.{Verdict}
+use Rattle.tracker.specs.declared.Verdict.the-variants.{New, Late, Duplicate, Heard, NotInTracker, BelowRange, Full, Malformed}
+use Rattle.tracker.specs.declared.Reply.{Reply}
+use Rattle.tracker.specs.Places.{channel, put}
+use Rattle.tracker.specs.Rules.{wellFormed}
+
+-- an arrival: the channel that it came on, and what came
+pub record Arrival : Type 0 where
+  pub channel : ℕ
+  pub event : Event
+
+-- the event e on channel k
+abbrev pub on : ℕ → Event → Arrival
+on k e = record { channel = k; event = e }
+
+-- the place of channel k among the n from place i on, or the place behind them
+unfoldable pub placeFrom : List ℕ → ℕ → ℕ → ℕ → ℕ
+placeFrom numbers k i zero = i
+placeFrom numbers k i (suc n) = cond (eqb (getD numbers i 0) k) i (placeFrom numbers k (suc i) n)
+
+-- the place of channel k; the count of channels where it is "not in the tracker"
+unfoldable pub place : Tracker → ℕ → ℕ
+place t k = placeFrom (t .numbers) k 0 (t .count)
+
+-- what an arrival is answered, and the next tracker
+pub record Outcome : Type 0 where
+  pub said : Answer Said
+  pub next : Tracker
+
+-- the step's record goes to place i; "a refusal [..] changes no tracker"
+abbrev pub settled : Tracker → ℕ → Answer Step → Outcome
+settled t i (accepted s) = record { said = accepted (s .said); next = put t i (s .next) }
+settled t i (refused n v) = record { said = refused n v; next = t }
+
+-- "A malformed tracker, 10, comes before all others"; "Arrival: 7, 8, 9"
+unfoldable pub arrived : Tracker → Arrival → Outcome
+arrived t a =
+    settled t (place t (a .channel))
+    (guard (not (wellFormed t)) (refused malformed [])
+    (guard (not (ltb (place t (a .channel)) (t .count))) (refused noSuchChannel [])
+    (judged (channel t (place t (a .channel))) (a .event))))
+
+-- the paper's number and values for each case of the code's verdict
+abbrev pub saidOf : Verdict → Answer Said
+saidOf New = accepted new
+saidOf Late = accepted late
+saidOf Duplicate = accepted duplicate
+saidOf Heard = accepted heard
+saidOf NotInTracker = refused noSuchChannel []
+saidOf BelowRange = refused numberTooLow []
+saidOf Full = refused tableFull []
+saidOf Malformed = refused malformed []
+
+-- what a reply says on paper: the answer, and the next tracker
+abbrev pub paper : Reply → Outcome
+paper r = record { said = saidOf (r .verdict); next = r .next }

@@ -1,0 +1,71 @@
+-- What the private functions of the crate promise to one another.
+use Prim.Native.Nat.{ℕ, _+_, _*_, _≤_, _<_}
+use mathlib.Core.Path.{_≡_}
+use mathlib.Core.List.{List, [], _∷_, _++_}
+use mathlib.Core.Bool.{Bool, true, false, cond}
+use lib.Dec.{ltb}
+use lib.ListN.{length, take, getD}
+use Rattle.wire.specs.Answer.{Answer, refused}
+use Rattle.gaps.specs.declared.Run.{Run}
+use Rattle.gaps.specs.Gaps.{run, has, cut, grow, canon}
+use Rattle.wire.specs.Refusal.{tableFull}
+use Rattle.gaps.specs.Limits.{runLimit}
+use Rattle.gaps.specs.Channel.{Said}
+use Rattle.tracker.specs.declared.Tracker.{Tracker}
+use Rattle.tracker.specs.declared.Gap.{Gap}
+use Rattle.tracker.specs.declared.Held.{Held}
+use Rattle.tracker.specs.declared.Held.the-variants.{No, AtEnd, Within}
+use Rattle.tracker.specs.declared.Seat.{Seat}
+use Rattle.tracker.specs.declared.Seat.the-variants.{Malformed, NotInTracker, At}
+use Rattle.tracker.specs.Places.{channelLimit, span, put}
+use Rattle.tracker.specs.Rules.{soundRow, sound}
+use Rattle.tracker.specs.Arrived.{Outcome, placeFrom}
+
+-- where a channel stands: 10, then 7, then its place
+unfoldable pub seatOf : ℕ → ℕ → List ℕ → List ℕ → List Bool → List ℕ → List ℕ → List ℕ → Seat
+seatOf k count numbers highest ended counts first last =
+    cond (sound count numbers highest ended counts first last)
+    (cond (ltb (placeFrom numbers k 0 count) count) (At (placeFrom numbers k 0 count)) NotInTracker)
+    Malformed
+
+-- the channel at place i keeps the rules
+pub record Kept (t : Tracker) (i : ℕ) : Type 0 where
+  pub place : i < channelLimit
+  pub row : soundRow (getD (t .highest) i 0) (getD (t .counts) i 0) (t .first) (t .last) (i * runLimit) ≡ true
+
+-- the n runs from place b on are in order
+pub record Ordered (f l : List ℕ) (b n : ℕ) : Type 0 where
+  pub low : ℕ
+  pub high : ℕ
+  pub order : canon low high (span f l b n) ≡ true
+
+-- r is the place, from b on, of the run that holds n, or no run of the count does
+pub record Found (f l : List ℕ) (b count n r : ℕ) : Type 0 where
+  pub first : r < count → getD f (b + r) 0 ≤ n
+  pub last : r < count → n ≤ getD l (b + r) 0
+  pub none : count ≤ r → has (span f l b count) n ≡ false
+
+-- no run holds n; or the run at place j does, and is left as one other run; or a run does
+pub data Finds (f l : List ℕ) (b count n : ℕ) : Held → Type 0 where
+  finds-no : has (span f l b count) n ≡ false → Finds f l b count n No
+  finds-end : (j : ℕ) (x : Run) → j < count → getD f (b + j) 0 ≤ n → n ≤ getD l (b + j) 0 →
+      cut (run (getD f (b + j) 0) (getD l (b + j) 0)) n ≡ x ∷ [] → Finds f l b count n (AtEnd (b + j) (x .first) (x .last))
+  finds-within : has (span f l b count) n ≡ true → Finds f l b count n Within
+
+-- where the numbers behind the highest h go: a place of the row, and the first number of the run there
+pub record Room (f l : List ℕ) (b held h : ℕ) (g : Gap) : Type 0 where
+  pub within : g .at < runLimit
+  pub low : g .at ≤ held
+  pub high : held ≤ g .at + 1
+  pub grown : (m : ℕ) → grow (span f l b held) h m ≡ take (g .at) (span f l b held) ++ (run (g .first) m ∷ [])
+
+pub record Grows (f l : List ℕ) (b held h : ℕ) (g : Gap) : Type 0 where
+  pub over : g .full ≡ true → (m : ℕ) → runLimit < length (grow (span f l b held) h m)
+  pub room : g .full ≡ false → Room f l b held h g
+
+-- 9 where these runs are more than 32, else this answer and the record with them
+unfoldable pub stored : Tracker → ℕ → Answer Said → ℕ → Bool → List Run → Outcome
+stored t i a highest ended runs =
+    cond (ltb runLimit (length runs))
+    (record { said = refused tableFull []; next = t })
+    (record { said = a; next = put t i (record { highest = highest; ended = ended; runs = runs }) })

@@ -1,0 +1,5 @@
+pub mod Places
+pub mod Rules
+pub mod SetUp
+pub mod Arrived
+pub mod Inside

@@ -1,0 +1,51 @@
+-- The tracker's arrays of numbers, and one channel's record in them (document 01, "Tracker").
+use Prim.Native.Nat.{ℕ, zero, suc, _*_}
+use mathlib.Core.List.{List, [], _∷_}
+use mathlib.Core.Bool.{false}
+use lib.ListN.{length, getD, set}
+use lib.Seq.{sets}
+use Rattle.gaps.specs.declared.Run.{Run}
+use Rattle.gaps.specs.Gaps.{run}
+use Rattle.gaps.specs.Limits.{runLimit}
+use Rattle.gaps.specs.Channel.{Channel}
+use Rattle.gaps.specs.Built.{firsts, lasts, padded}
+use Rattle.tracker.specs.declared.Tracker.{Tracker}
+
+-- "1 to 8 channel numbers"
+abbrev pub channelLimit : ℕ
+channelLimit = 8
+
+-- the places of all channels' runs
+abbrev pub placeCount : ℕ
+placeCount = channelLimit * runLimit
+
+-- the number that a channel starts with
+abbrev pub firstNumber : ℕ
+firstNumber = 1
+
+-- the n runs from place i on
+unfoldable pub span : List ℕ → List ℕ → ℕ → ℕ → List Run
+span f l i zero = []
+span f l i (suc n) = run (getD f i 0) (getD l i 0) ∷ span f l (suc i) n
+
+-- the record of the channel at place i
+abbrev pub channel : Tracker → ℕ → Channel
+channel t i =
+    record {
+      highest = getD (t .highest) i 0;
+      ended = getD (t .ended) i false;
+      runs = span (t .first) (t .last) (i * runLimit) (getD (t .counts) i 0);
+    }
+
+-- the tracker with this record at place i, zero in the places behind its runs; nothing else changes
+unfoldable pub put : Tracker → ℕ → Channel → Tracker
+put t i c =
+    record {
+      count = t .count;
+      numbers = t .numbers;
+      highest = set (t .highest) i (c .highest);
+      ended = set (t .ended) i (c .ended);
+      counts = set (t .counts) i (length (c .runs));
+      first = sets (t .first) (i * runLimit) (padded runLimit (firsts (c .runs)));
+      last = sets (t .last) (i * runLimit) (padded runLimit (lasts (c .runs)));
+    }

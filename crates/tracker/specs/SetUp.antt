@@ -1,0 +1,64 @@
+-- "It is set up with 1 to 8 channel numbers, strictly ascending."
+use Prim.Native.Nat.{ℕ, _+_}
+use mathlib.Core.List.{List, [], _∷_}
+use mathlib.Core.Bool.{Bool, true, false, not, _&&_}
+use lib.Dec.{ltb, leb, eqb}
+use lib.ListN.{length, replicate}
+use Rattle.wire.specs.Answer.{Answer, accepted, refused, guard}
+use Rattle.wire.specs.Refusal.{malformed}
+use Rattle.gaps.specs.Built.{padded}
+use Rattle.tracker.specs.declared.Tracker.{Tracker}
+use Rattle.tracker.specs.declared.Start.{Start}
+use Rattle.tracker.specs.declared.Start.the-variants.{SetUp, Malformed}
+use Rattle.tracker.specs.declared.Started.{Started}
+use Rattle.tracker.specs.Places.{channelLimit, placeCount}
+
+-- "strictly ascending", from lo on
+unfoldable pub ascends : ℕ → List ℕ → Bool
+ascends lo [] = true
+ascends lo (n ∷ l) = leb lo n && ascends (n + 1) l
+
+-- a count of channels and their numbers, all else zero
+abbrev pub blankWith : ℕ → List ℕ → Tracker
+blankWith count numbers =
+    record {
+      count = count;
+      numbers = numbers;
+      highest = replicate channelLimit 0;
+      ended = replicate channelLimit false;
+      counts = replicate channelLimit 0;
+      first = replicate placeCount 0;
+      last = replicate placeCount 0;
+    }
+
+-- a tracker of these channels, "0 at first", that nothing has reached
+abbrev pub blankOf : List ℕ → Tracker
+blankOf numbers = blankWith (length numbers) (padded channelLimit numbers)
+
+-- what the set-up answers, and the tracker that it gives
+pub record Ready : Type 0 where
+  pub said : Answer Unit
+  pub tracker : Tracker
+
+-- "set-up refused gives the all-zero tracker, with no channel"
+abbrev pub given : Answer Tracker → Ready
+given (accepted t) = record { said = accepted tt; tracker = t }
+given (refused n v) = record { said = refused n v; tracker = blankOf [] }
+
+-- 10: "channel list empty, longer than 8 or not strictly ascending"
+unfoldable pub setUp : List ℕ → Ready
+setUp numbers =
+    given
+    (guard (eqb (length numbers) 0) (refused malformed [])
+    (guard (ltb channelLimit (length numbers)) (refused malformed [])
+    (guard (not (ascends 0 numbers)) (refused malformed [])
+    (accepted (blankOf numbers)))))
+
+-- the paper's number and values for each case of the code's answer
+abbrev pub saidOf : Start → Answer Unit
+saidOf SetUp = accepted tt
+saidOf Malformed = refused malformed []
+
+-- what the set-up's answer says on paper
+abbrev pub paper : Started → Ready
+paper r = record { said = saidOf (r .verdict); tracker = r .tracker }

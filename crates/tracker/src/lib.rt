@@ -1,0 +1,274 @@
+// The gap record of up to eight channels: which numbers never came, in whatever order they came.
+ghost use mathlib.Core.Path.{_≡_};
+ghost use Rattle.gaps.specs.Gaps.{cutAll, grow};
+ghost use Rattle.gaps.specs.Channel.{tick, heartbeat};
+ghost use Rattle.tracker.specs.Places.{channel};
+ghost use Rattle.tracker.specs.SetUp.{blankWith, setUp, paper as begun};
+ghost use Rattle.tracker.specs.Arrived.{on, arrived, saidOf, paper};
+ghost use Rattle.tracker.specs.Inside.{Kept, stored};
+use gaps::Runs;
+
+mod places;
+mod rules;
+mod signs;
+
+// Each channel's number, highest number, ended mark and count of runs, and the runs of all of them; unused places are zero.
+#[repr(C)]
+pub struct Tracker {
+    pub count: usize,
+    pub numbers: [u16; Tracker::CHANNELS],
+    pub highest: [u64; Tracker::CHANNELS],
+    pub ended: [bool; Tracker::CHANNELS],
+    pub counts: [usize; Tracker::CHANNELS],
+    pub first: [u64; Tracker::PLACES],
+    pub last: [u64; Tracker::PLACES],
+}
+
+// What the set-up answers.
+pub enum Start {
+    SetUp,
+    Malformed,
+}
+
+// The set-up's answer, and the tracker.
+pub struct Started {
+    pub verdict: Start,
+    pub tracker: Tracker,
+}
+
+// What an arrival is answered.
+pub enum Verdict {
+    New,
+    Late,
+    Duplicate,
+    Heard,
+    NotInTracker,
+    BelowRange,
+    Full,
+    Malformed,
+}
+
+// An arrival's answer, and the next tracker.
+pub struct Reply {
+    pub verdict: Verdict,
+    pub next: Tracker,
+}
+
+// Where new missing numbers go: the place in the row and the first number of the run there, or full.
+struct Gap {
+    full: bool,
+    at: usize,
+    first: u64,
+}
+
+// Whether a run holds a number: at an end, where the run at that place is left as from first to last, or within.
+enum Held {
+    No,
+    AtEnd(usize, u64, u64),
+    Within,
+}
+
+// Where a channel stands in a tracker.
+enum Seat {
+    Malformed,
+    NotInTracker,
+    At(usize),
+}
+
+impl Tracker {
+    // The most channels that a tracker holds.
+    pub const CHANNELS: usize = 8;
+
+    // The places of all channels' runs.
+    const PLACES: usize = Tracker::CHANNELS * Runs::LIMIT;
+
+    // A tracker of these channels that nothing has reached, or the all-zero tracker where they are refused.
+    pub fn set_up(numbers: &[u16]) -> Started
+        ensures { λ r. ⌜ begun r ≡ setUp (now (numbers .entry)) ⌝ }
+    {
+        let n = numbers.len();
+        if n == 0 {
+            return Started {
+                verdict: Start::Malformed,
+                tracker: Tracker::blank(0, [0; Tracker::CHANNELS]),
+            };
+        }
+        if Tracker::CHANNELS < n {
+            return Started {
+                verdict: Start::Malformed,
+                tracker: Tracker::blank(0, [0; Tracker::CHANNELS]),
+            };
+        }
+        if rules::ascending(numbers) {
+            return Started {
+                verdict: Start::SetUp,
+                tracker: Tracker::blank(n, places::padded(numbers)),
+            };
+        }
+        Started {
+            verdict: Start::Malformed,
+            tracker: Tracker::blank(0, [0; Tracker::CHANNELS]),
+        }
+    }
+
+    // A tracker of these channels, zero but for them.
+    fn blank(count: usize, numbers: [u16; Tracker::CHANNELS]) -> Tracker
+        ensures { λ r. ⌜ r ≡ blankWith count numbers ⌝ }
+    {
+        Tracker {
+            count: count,
+            numbers: numbers,
+            highest: [0; Tracker::CHANNELS],
+            ended: [false; Tracker::CHANNELS],
+            counts: [0; Tracker::CHANNELS],
+            first: [0; Tracker::PLACES],
+            last: [0; Tracker::PLACES],
+        }
+    }
+
+    // A tick on a channel: its answer, and the next tracker.
+    pub fn tick(mut self, channel: u16, number: i64) -> Reply
+        ensures { λ r. ⌜ paper r ≡ arrived self (on channel (tick number)) ⌝ }
+    {
+        let seat = rules::seat(
+            channel,
+            self.count,
+            &self.numbers,
+            &self.highest,
+            &self.ended,
+            &self.counts,
+            &self.first,
+            &self.last,
+        );
+        match seat {
+            Seat::Malformed => self.unchanged(Verdict::Malformed),
+            Seat::NotInTracker => self.unchanged(Verdict::NotInTracker),
+            Seat::At(at) => {
+                let n = signs::natural(number);
+                if n < 1 {
+                    return self.unchanged(Verdict::BelowRange);
+                }
+                let highest = self.highest[at];
+                // The common path: the next number, and nothing else changes.
+                if highest == n - 1 {
+                    self.highest[at] = n;
+                    return Reply {
+                        verdict: Verdict::New,
+                        next: self,
+                    };
+                }
+                if highest < n {
+                    let ended = self.ended[at];
+                    return self.raise(at, n - 1, n, ended, Verdict::New);
+                }
+                let count = self.counts[at];
+                let held = places::held(&self.first, &self.last, at * Runs::LIMIT, count, n);
+                match held {
+                    Held::No => self.unchanged(Verdict::Duplicate),
+                    Held::AtEnd(p, first, last) => {
+                        self.first[p] = first;
+                        self.last[p] = last;
+                        return Reply {
+                            verdict: Verdict::Late,
+                            next: self,
+                        };
+                    }
+                    Held::Within => self.cut(at, n),
+                }
+            }
+        }
+    }
+
+    // A channel heartbeat: its answer, and the next tracker.
+    pub fn heartbeat(mut self, channel: u16, last: i64, end: bool) -> Reply
+        ensures { λ r. ⌜ paper r ≡ arrived self (on channel (heartbeat last end)) ⌝ }
+    {
+        let seat = rules::seat(
+            channel,
+            self.count,
+            &self.numbers,
+            &self.highest,
+            &self.ended,
+            &self.counts,
+            &self.first,
+            &self.last,
+        );
+        match seat {
+            Seat::Malformed => self.unchanged(Verdict::Malformed),
+            Seat::NotInTracker => self.unchanged(Verdict::NotInTracker),
+            Seat::At(at) => {
+                if signs::below(last) {
+                    return self.unchanged(Verdict::BelowRange);
+                }
+                let m = signs::natural(last);
+                let highest = self.highest[at];
+                let ended = self.ended[at] | end;
+                if highest < m {
+                    return self.raise(at, m, m, ended, Verdict::Heard);
+                }
+                self.ended[at] = ended;
+                Reply {
+                    verdict: Verdict::Heard,
+                    next: self,
+                }
+            }
+        }
+    }
+
+    // This answer, and the tracker as it stood.
+    fn unchanged(self, verdict: Verdict) -> Reply
+        ensures { λ r. ⌜ (r .verdict ≡ verdict) × (r .next ≡ self) ⌝ }
+    {
+        Reply {
+            verdict: verdict,
+            next: self,
+        }
+    }
+
+    // All numbers behind the highest up to m become missing, under another highest and mark; or 9.
+    fn raise(mut self, at: usize, m: u64, highest: u64, ended: bool, verdict: Verdict) -> Reply
+        requires { ⌜ Kept self at ⌝ }
+        ensures { λ r. ⌜ paper r ≡ stored self at (saidOf verdict) highest ended (grow (channel self at .runs) (channel self at .highest) m) ⌝ }
+    {
+        let b = at * Runs::LIMIT;
+        let held = self.counts[at];
+        let before = self.highest[at];
+        let gap = places::gap(&self.first, &self.last, b, held, before);
+        if gap.full {
+            return self.unchanged(Verdict::Full);
+        }
+        let j = gap.at;
+        let p = b + j;
+        self.first[p] = gap.first;
+        self.last[p] = m;
+        self.counts[at] = j + 1;
+        self.highest[at] = highest;
+        self.ended[at] = ended;
+        Reply {
+            verdict: verdict,
+            next: self,
+        }
+    }
+
+    // The number leaves its run, which goes or splits, or 9.
+    fn cut(mut self, at: usize, n: u64) -> Reply
+        requires { ⌜ Kept self at ⌝ }
+        ensures { λ r. ⌜ paper r ≡ stored self at (saidOf Verdict.Late) (channel self at .highest) (channel self at .ended) (cutAll (channel self at .runs) n) ⌝ }
+    {
+        let b = at * Runs::LIMIT;
+        let held = self.counts[at];
+        let left = places::without(&self.first, &self.last, b, held, n);
+        if left.full {
+            return self.unchanged(Verdict::Full);
+        }
+        let first = left.first;
+        let last = left.last;
+        self.counts[at] = left.count;
+        places::lay(&mut self.first, b, first);
+        places::lay(&mut self.last, b, last);
+        Reply {
+            verdict: Verdict::Late,
+            next: self,
+        }
+    }
+}

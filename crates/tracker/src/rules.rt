@@ -1,0 +1,221 @@
+// The rules that a tracker keeps, tested.
+ghost use mathlib.Core.Path.{_≡_};
+ghost use Prim.Native.Nat.{_+_, _-_, _≤_};
+ghost use Rattle.gaps.specs.Gaps.{canon};
+ghost use Rattle.gaps.specs.Limits.{runLimit, mostNumber};
+ghost use Rattle.tracker.specs.Places.{channelLimit, placeCount, firstNumber, span};
+ghost use Rattle.tracker.specs.Rules.{allZero, soundRow, soundRows, blank, sound};
+ghost use Rattle.tracker.specs.SetUp.{ascends};
+ghost use Rattle.tracker.specs.Inside.{seatOf};
+use crate::Seat;
+use crate::Tracker;
+use crate::places;
+use gaps::Runs;
+
+// The largest number that an arrival can bring.
+const MOST: u64 = 9_223_372_036_854_775_807;
+
+// The same number, with room for one more.
+fn wide(x: u16) -> u32
+    ensures { λ r. ⌜ (r ≡ x) × (r ≤ 65535) ⌝ }
+{
+    x as u32
+}
+
+// Does each number stand above the one before?
+pub(crate) fn ascending(numbers: &[u16]) -> bool
+    ensures { λ r. ⌜ r ≡ ascends 0 (now (numbers .entry)) ⌝ }
+{
+    let mut low: u32 = 0;
+    let mut i: usize = 0;
+    while i < numbers.len() {
+        let number = wide(numbers[i]);
+        if number < low {
+            return false;
+        }
+        low = number + 1;
+        i += 1;
+    }
+    true
+}
+
+// Are the places from one to another zero?
+fn cleared<'a>(
+    first: &'a [u64; Tracker::PLACES],
+    last: &'a [u64; Tracker::PLACES],
+    from: usize,
+    to: usize,
+) -> bool
+    requires { ⌜ (from ≤ to) × (to ≤ placeCount) ⌝ }
+    ensures { λ r. ⌜ r ≡ allZero (span (now (first .entry)) (now (last .entry)) from (to - from)) ⌝ }
+{
+    let mut bits: u64 = 0;
+    let mut i = from;
+    while i < to {
+        bits = bits | first[i] | last[i];
+        i += 1;
+    }
+    bits == 0
+}
+
+// Are the runs from one place to another in order, none touching the next, from 1 to the highest?
+fn ordered<'a>(
+    first: &'a [u64; Tracker::PLACES],
+    last: &'a [u64; Tracker::PLACES],
+    from: usize,
+    to: usize,
+    highest: u64,
+) -> bool
+    requires { ⌜ (from ≤ to) × (to ≤ placeCount) × (highest ≤ mostNumber) ⌝ }
+    ensures { λ r. ⌜ r ≡ canon firstNumber highest (span (now (first .entry)) (now (last .entry)) from (to - from)) ⌝ }
+{
+    let mut low: u64 = 1;
+    let mut i = from;
+    while i < to {
+        let a = first[i];
+        let e = last[i];
+        if a < low {
+            return false;
+        }
+        if e < a {
+            return false;
+        }
+        if highest < e {
+            return false;
+        }
+        low = e + 2;
+        i += 1;
+    }
+    true
+}
+
+// Do a channel's places, from b on, keep the rules?
+fn row<'a>(
+    first: &'a [u64; Tracker::PLACES],
+    last: &'a [u64; Tracker::PLACES],
+    b: usize,
+    count: usize,
+    highest: u64,
+) -> bool
+    requires { ⌜ b + runLimit ≤ placeCount ⌝ }
+    ensures { λ r. ⌜ r ≡ soundRow highest count (now (first .entry)) (now (last .entry)) b ⌝ }
+{
+    if Runs::LIMIT < count {
+        return false;
+    }
+    if MOST < highest {
+        return false;
+    }
+    if ordered(first, last, b, b + count, highest) {
+        return cleared(first, last, b + count, b + Runs::LIMIT);
+    }
+    false
+}
+
+// Are the channels in order, each with places that keep the rules?
+fn rows<'a>(
+    count: usize,
+    numbers: &'a [u16; Tracker::CHANNELS],
+    highest: &'a [u64; Tracker::CHANNELS],
+    counts: &'a [usize; Tracker::CHANNELS],
+    first: &'a [u64; Tracker::PLACES],
+    last: &'a [u64; Tracker::PLACES],
+) -> bool
+    requires { ⌜ count ≤ channelLimit ⌝ }
+    ensures { λ r. ⌜ r ≡ soundRows (now (numbers .entry)) (now (highest .entry)) (now (counts .entry)) (now (first .entry)) (now (last .entry)) 0 0 count ⌝ }
+{
+    let mut low: u32 = 0;
+    let mut i: usize = 0;
+    while i < count {
+        let number = wide(numbers[i]);
+        if number < low {
+            return false;
+        }
+        let good = row(first, last, i * Runs::LIMIT, counts[i], highest[i]);
+        if !good {
+            return false;
+        }
+        low = number + 1;
+        i += 1;
+    }
+    true
+}
+
+// Do the places from one on hold no channel?
+fn unused<'a>(
+    from: usize,
+    numbers: &'a [u16; Tracker::CHANNELS],
+    highest: &'a [u64; Tracker::CHANNELS],
+    ended: &'a [bool; Tracker::CHANNELS],
+    counts: &'a [usize; Tracker::CHANNELS],
+) -> bool
+    requires { ⌜ from ≤ channelLimit ⌝ }
+    ensures { λ r. ⌜ r ≡ blank (now (numbers .entry)) (now (highest .entry)) (now (ended .entry)) (now (counts .entry)) from (channelLimit - from) ⌝ }
+{
+    let mut i = from;
+    while i < Tracker::CHANNELS {
+        if numbers[i] != 0 {
+            return false;
+        }
+        if highest[i] != 0 {
+            return false;
+        }
+        if ended[i] {
+            return false;
+        }
+        if counts[i] != 0 {
+            return false;
+        }
+        i += 1;
+    }
+    true
+}
+
+// Does a tracker of these fields keep the rules?
+fn sound<'a>(
+    count: usize,
+    numbers: &'a [u16; Tracker::CHANNELS],
+    highest: &'a [u64; Tracker::CHANNELS],
+    ended: &'a [bool; Tracker::CHANNELS],
+    counts: &'a [usize; Tracker::CHANNELS],
+    first: &'a [u64; Tracker::PLACES],
+    last: &'a [u64; Tracker::PLACES],
+) -> bool
+    ensures { λ r. ⌜ r ≡ sound count (now (numbers .entry)) (now (highest .entry)) (now (ended .entry)) (now (counts .entry)) (now (first .entry)) (now (last .entry)) ⌝ }
+{
+    if count == 0 {
+        return false;
+    }
+    if Tracker::CHANNELS < count {
+        return false;
+    }
+    if rows(count, numbers, highest, counts, first, last) {
+        if unused(count, numbers, highest, ended, counts) {
+            return cleared(first, last, count * Runs::LIMIT, Tracker::PLACES);
+        }
+    }
+    false
+}
+
+// Where a channel stands in a tracker of these fields.
+pub(crate) fn seat<'a>(
+    channel: u16,
+    count: usize,
+    numbers: &'a [u16; Tracker::CHANNELS],
+    highest: &'a [u64; Tracker::CHANNELS],
+    ended: &'a [bool; Tracker::CHANNELS],
+    counts: &'a [usize; Tracker::CHANNELS],
+    first: &'a [u64; Tracker::PLACES],
+    last: &'a [u64; Tracker::PLACES],
+) -> Seat
+    ensures { λ r. ⌜ r ≡ seatOf channel count (now (numbers .entry)) (now (highest .entry)) (now (ended .entry)) (now (counts .entry)) (now (first .entry)) (now (last .entry)) ⌝ }
+{
+    if sound(count, numbers, highest, ended, counts, first, last) {
+        let at = places::find(numbers, count, channel);
+        if at < count {
+            return Seat::At(at);
+        }
+        return Seat::NotInTracker;
+    }
+    Seat::Malformed
+}

@@ -1,0 +1,22 @@
+// Signed numbers as they come in an arrival.
+ghost use mathlib.Core.Path.{_≡_};
+ghost use lib.IntN.{pos};
+ghost use lib.Signed.{ltZ};
+ghost use Rattle.gaps.specs.Channel.{natural};
+
+// Is the number below 0?
+pub(crate) fn below(number: i64) -> bool
+    ensures { λ r. ⌜ r ≡ ltZ number (pos 0) ⌝ }
+{
+    number < 0
+}
+
+// The number, or 0 where it is below.
+pub(crate) fn natural(number: i64) -> u64
+    ensures { λ r. ⌜ r ≡ natural number ⌝ }
+{
+    if number < 0 {
+        return 0;
+    }
+    number as u64
+}
