@@ -5,8 +5,10 @@ from collections import namedtuple
 import wire
 import words
 
-# A frame's bytes, and its expected lines in both programs' text.
-Case = namedtuple("Case", "data listed shown")
+# A frame's bytes, its expected lines in both programs' text, and the frame
+# that comes of it where it is read and written again: nothing where it is
+# refused or not listed.
+Case = namedtuple("Case", "data listed shown again", defaults=(b"",))
 
 # What ends a run of frames: bytes that are refused, and by which number.
 Ending = namedtuple("Ending", "data number")
@@ -102,8 +104,10 @@ def good(name, groups=(), tail=b"", **changes):
     values = values_of(name, groups, changes)
     content = wire.body(name, values, groups) + tail
     told = groups[:values.get("count", 0)]
-    return case(wire.TYPES[name][0], content,
-                words.record(name, values, told))
+    number = wire.TYPES[name][0]
+    again = wire.frame(number, wire.body(name, values, told))
+    return case(number, content,
+                words.record(name, values, told))._replace(again=again)
 
 
 def bad(refusal, name, groups=(), tail=b"", short=0, **changes):
@@ -158,3 +162,8 @@ def listing(file):
 def showing(file):
     """What the decoding program prints."""
     return text_of(file, lambda each: each.shown)
+
+
+def again(file):
+    """The file's frames, read and written again."""
+    return b"".join(each.again for each in file.cases)

@@ -51,6 +51,9 @@ def main():
             look(data, text)
             write(folder, text_name, text.encode("ascii"))
         write(folder, name, data)
+    for file, name in [(opening.file(), "opening.again")] + [
+            (each, f"show/{each.name}.again") for each in showing.files()]:
+        write(folder, name, cases.again(file))
 
 
 main()

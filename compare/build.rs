@@ -1,7 +1,0 @@
-// Links the archive that `rt staticlib board` writes.
-fn main() {
-    let here = std::env::var("CARGO_MANIFEST_DIR").unwrap();
-    println!("cargo:rustc-link-search=native={here}/../target/staticlib");
-    println!("cargo:rustc-link-lib=static=board");
-    println!("cargo:rerun-if-changed={here}/../target/staticlib/libboard.a");
-}

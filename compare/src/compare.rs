@@ -1,0 +1,391 @@
+//! Plays inputs against two receivers and compares their answers, refusal
+//! numbers and every byte of lent output and state.
+
+#![forbid(unsafe_code)]
+
+use crate::inputs::{Asked, Call, Input, Inputs};
+use crate::receiver::{
+    ArrivalAnswer, Cursor, Draft, Entry, Found, FrameAnswer, ReadAnswer, Receiver, RequestAnswer,
+    Says, Step, Tracker, Verdict, WriteAnswer,
+};
+use crate::second::layout::{layout, SNAPSHOT};
+use crate::second::rules::Rules;
+use crate::table::{self, entry_row, type_row, Part, Table};
+use std::fmt;
+
+/// The byte that a request's output holds before.
+const MARKER: u8 = 0xA5;
+
+/// A call that two receivers answer differently.
+#[derive(Debug)]
+pub struct Told {
+    call: String,
+    first: String,
+    second: String,
+}
+
+/// A difference, with the input that it was met on.
+#[derive(Debug)]
+pub struct Difference {
+    seed: u64,
+    index: u64,
+    input: Input,
+    told: Told,
+}
+
+impl fmt::Display for Difference {
+    fn fmt(&self, out: &mut fmt::Formatter<'_>) -> fmt::Result {
+        writeln!(
+            out,
+            "difference at input {} of seed {}",
+            self.index, self.seed
+        )?;
+        writeln!(out, "{}", self.input)?;
+        writeln!(out, "call:   {}", self.told.call)?;
+        writeln!(out, "first:  {}", self.told.first)?;
+        write!(out, "second: {}", self.told.second)
+    }
+}
+
+/// Plays so many inputs of a seed against two receivers.
+pub fn compare(
+    first: &dyn Receiver,
+    second: &dyn Receiver,
+    rules: &Rules,
+    inputs: u64,
+    seed: u64,
+) -> Result<Table, Box<Difference>> {
+    let source = Inputs::new(rules, seed);
+    let mut play = Play {
+        first,
+        second,
+        table: Table::new(rules),
+    };
+    for index in 0..inputs {
+        let input = source.input(index);
+        if let Err(told) = play.input(&input) {
+            return Err(Box::new(Difference {
+                seed,
+                index,
+                input,
+                told,
+            }));
+        }
+    }
+    Ok(play.table)
+}
+
+/// Both answers where they are the same.
+fn same<T: PartialEq + fmt::Debug>(
+    call: impl FnOnce() -> String,
+    first: T,
+    second: T,
+) -> Result<T, Told> {
+    if first == second {
+        return Ok(first);
+    }
+    Err(Told {
+        call: call(),
+        first: format!("{first:?}"),
+        second: format!("{second:?}"),
+    })
+}
+
+/// Lent bytes, told in hex.
+#[derive(PartialEq)]
+struct Bytes(Vec<u8>);
+
+impl fmt::Debug for Bytes {
+    fn fmt(&self, out: &mut fmt::Formatter<'_>) -> fmt::Result {
+        self.0
+            .iter()
+            .try_for_each(|byte| write!(out, "{byte:02X} "))
+    }
+}
+
+/// A refusal's column.
+fn refusal(number: u32) -> &'static str {
+    const NUMBERS: [&str; 10] = ["1", "2", "3", "4", "5", "6", "7", "8", "9", "10"];
+    number
+        .checked_sub(1)
+        .and_then(|place| NUMBERS.get(place as usize))
+        .unwrap_or(&"?")
+}
+
+/// The column of something asked for by position.
+fn found<T>(answer: &Found<T>) -> &'static str {
+    match answer {
+        Found::Refused(number) => refusal(*number),
+        Found::NoSuchEntry => "none",
+        Found::Found(_) => "found",
+    }
+}
+
+/// The column of what an entry says.
+fn says(entry: &Entry) -> &'static str {
+    let place = match entry.says {
+        Says::Level { .. } => 0,
+        Says::LevelWithoutPrice { .. } => 1,
+        Says::Price { .. } => 2,
+        Says::Size { .. } => 3,
+        Says::PriceAndSize { .. } => 4,
+        Says::NoLimit => 5,
+        Says::Unknown => 6,
+    };
+    table::SAYS[place]
+}
+
+/// Two receivers and what was met with them.
+struct Play<'a> {
+    first: &'a dyn Receiver,
+    second: &'a dyn Receiver,
+    table: Table,
+}
+
+impl Play<'_> {
+    fn input(&mut self, input: &Input) -> Result<(), Told> {
+        match input {
+            Input::Frame {
+                made_as,
+                pushed,
+                bytes,
+                asked,
+            } => self.frame(*made_as, *pushed, bytes, *asked),
+            Input::Body { kind, body, asked } => self.body(*kind, body, None, *asked),
+            Input::Step { kind, body, cursor } => self.step(*kind, body, *cursor).map(|_| ()),
+            Input::Write {
+                pushed,
+                kind,
+                numbers,
+                texts,
+                groups,
+                output,
+            } => {
+                let draft = Draft {
+                    kind: *kind,
+                    numbers: *numbers,
+                    texts,
+                    groups,
+                };
+                self.write(&draft, *pushed, output)
+            }
+            Input::SetUp { channels } => self.set_up(channels).map(|_| ()),
+            Input::Arrivals { channels, calls } => {
+                let tracker = self.set_up(channels)?;
+                self.calls(None, tracker, calls)
+            }
+            Input::Tracker {
+                way,
+                tracker,
+                calls,
+            } => self.calls(*way, **tracker, calls),
+        }
+    }
+
+    /// Reads a frame, and its body where there is one.
+    fn frame(
+        &mut self,
+        made_as: u32,
+        pushed: Option<usize>,
+        bytes: &[u8],
+        asked: Asked,
+    ) -> Result<(), Told> {
+        let call = || "frame".to_string();
+        match same(call, self.first.frame(bytes), self.second.frame(bytes))? {
+            FrameAnswer::Refused(number) => {
+                self.table
+                    .meet(Part::Reader, type_row(made_as), refusal(number));
+                Ok(())
+            }
+            FrameAnswer::Frame { kind, from, to, .. } => {
+                self.body(kind, &bytes[from..to], pushed, asked)
+            }
+        }
+    }
+
+    /// Reads a body, and asks for what is in it.
+    fn body(
+        &mut self,
+        kind: u32,
+        body: &[u8],
+        pushed: Option<usize>,
+        asked: Asked,
+    ) -> Result<(), Told> {
+        let call = || format!("read {kind}");
+        let answer = same(
+            call,
+            self.first.read(kind, body),
+            self.second.read(kind, body),
+        )?;
+        let column = match answer {
+            ReadAnswer::Refused(number) => refusal(number),
+            ReadAnswer::Unknown { .. } | ReadAnswer::Record(_) => "accepted",
+        };
+        self.table.meet(Part::Reader, type_row(kind), column);
+        if let (Some(place), "5") = (pushed, column) {
+            self.table.meet_push(place, false);
+        }
+        self.positions(kind, body, asked)?;
+        self.walk(kind, body, false)
+    }
+
+    /// Asks for a group, an entry and a quantity by position.
+    fn positions(&mut self, kind: u32, body: &[u8], asked: Asked) -> Result<(), Told> {
+        let (entry, quantity) = (asked.entry, asked.quantity);
+        let (a, b) = (self.first, self.second);
+        let call = || format!("group {entry} of {kind}");
+        let answer = same(call, a.group(kind, body, entry), b.group(kind, body, entry))?;
+        self.table
+            .meet(Part::Positions, table::GROUP, found(&answer));
+        let call = || format!("entry {entry} of {kind}");
+        let answer = same(call, a.entry(kind, body, entry), b.entry(kind, body, entry))?;
+        self.table
+            .meet(Part::Positions, table::ENTRY, found(&answer));
+        let call = || format!("quantity {quantity} of entry {entry} of {kind}");
+        let first = a.quantity(kind, body, entry, quantity);
+        let answer = same(call, first, b.quantity(kind, body, entry, quantity))?;
+        self.table
+            .meet(Part::Positions, table::QUANTITY, found(&answer));
+        Ok(())
+    }
+
+    /// Steps over all entries of a body, and once more.
+    fn walk(&mut self, kind: u32, body: &[u8], written: bool) -> Result<(), Told> {
+        let call = || format!("start {kind}");
+        let answer = same(
+            call,
+            self.first.start(kind, body),
+            self.second.start(kind, body),
+        )?;
+        self.table
+            .meet(Part::Positions, table::START, found(&answer));
+        let Found::Found(mut cursor) = answer else {
+            return Ok(());
+        };
+        while let Found::Found(step) = self.step(kind, body, cursor)? {
+            let row = entry_row(kind == SNAPSHOT, written);
+            self.table.meet(Part::Entries, row, says(&step.entry));
+            cursor = step.next;
+        }
+        Ok(())
+    }
+
+    /// Steps over one entry.
+    fn step(&mut self, kind: u32, body: &[u8], cursor: Cursor) -> Result<Found<Step>, Told> {
+        let call = || format!("step {kind} {cursor:?}");
+        let first = self.first.step(kind, body, cursor);
+        let answer = same(call, first, self.second.step(kind, body, cursor))?;
+        self.table
+            .meet(Part::Positions, table::STEP, found(&answer));
+        Ok(answer)
+    }
+
+    /// Writes a frame, and steps over its entries.
+    fn write(&mut self, draft: &Draft, pushed: Option<usize>, before: &[u8]) -> Result<(), Told> {
+        let (mut one, mut two) = (before.to_vec(), before.to_vec());
+        let first = self.first.write(draft, &mut one);
+        let second = self.second.write(draft, &mut two);
+        let answer = same(|| "write".to_string(), first, second)?;
+        let one = same(|| "output of write".to_string(), Bytes(one), Bytes(two))?;
+        let column = match answer {
+            WriteAnswer::Refused(number) => refusal(number),
+            WriteAnswer::Written(_) => "accepted",
+        };
+        self.table.meet(Part::Writer, type_row(draft.kind), column);
+        if let (Some(place), "5") = (pushed, column) {
+            self.table.meet_push(place, true);
+        }
+        match (answer, layout(draft.kind)) {
+            (WriteAnswer::Written(size), Some(layout)) if layout.has_entries() => {
+                self.walk(draft.kind, &one.0[8..size - 4], true)
+            }
+            _ => Ok(()),
+        }
+    }
+
+    /// Sets up a tracker.
+    fn set_up(&mut self, channels: &[u16]) -> Result<Tracker, Told> {
+        let call = || format!("set up {channels:?}");
+        let answer = same(
+            call,
+            self.first.set_up(channels),
+            self.second.set_up(channels),
+        )?;
+        let column = answer.refused.map_or("accepted", refusal);
+        self.table.meet(Part::Tracker, table::SET_UP, column);
+        Ok(answer.tracker)
+    }
+
+    /// Plays calls one after the other.
+    fn calls(
+        &mut self,
+        way: Option<usize>,
+        mut tracker: Tracker,
+        calls: &[Call],
+    ) -> Result<(), Told> {
+        for call in calls {
+            let (row, column) = match *call {
+                Call::Tick { channel, number } => {
+                    let first = self.first.tick(&tracker, channel, number);
+                    let second = self.second.tick(&tracker, channel, number);
+                    (table::TICK, arrival(call, &mut tracker, first, second)?)
+                }
+                Call::Heartbeat { channel, last, end } => {
+                    let first = self.first.heartbeat(&tracker, channel, last, end);
+                    let second = self.second.heartbeat(&tracker, channel, last, end);
+                    (
+                        table::HEARTBEAT,
+                        arrival(call, &mut tracker, first, second)?,
+                    )
+                }
+                Call::Request { channel, output } => {
+                    (table::REQUEST, self.request(&tracker, channel, output)?)
+                }
+            };
+            self.table.meet(Part::Tracker, row, column);
+            if let (Some(way), "10") = (way, column) {
+                self.table.meet(Part::Malformed, way, table::CALLS[row]);
+            }
+        }
+        Ok(())
+    }
+
+    /// Asks for lost messages.
+    fn request(
+        &self,
+        tracker: &Tracker,
+        channel: u16,
+        output: usize,
+    ) -> Result<&'static str, Told> {
+        let (mut one, mut two) = (vec![MARKER; output], vec![MARKER; output]);
+        let first = self.first.request(tracker, channel, &mut one);
+        let second = self.second.request(tracker, channel, &mut two);
+        let call = || format!("request {channel} on {tracker:?}");
+        let answer = same(call, first, second)?;
+        let call = || format!("output of request {channel} on {tracker:?}");
+        same(call, Bytes(one), Bytes(two))?;
+        Ok(match answer {
+            RequestAnswer::Refused(number) => refusal(number),
+            RequestAnswer::NothingMissing => "nothing",
+            RequestAnswer::Written(_) => "written",
+        })
+    }
+}
+
+/// The verdict of an arrival; the tracker goes on to the next one.
+fn arrival(
+    call: &Call,
+    tracker: &mut Tracker,
+    first: ArrivalAnswer,
+    second: ArrivalAnswer,
+) -> Result<&'static str, Told> {
+    let answer = same(|| format!("{call:?} on {tracker:?}"), first, second)?;
+    *tracker = answer.next;
+    Ok(match answer.verdict {
+        Verdict::Refused(number) => refusal(number),
+        Verdict::New => "new",
+        Verdict::Late => "late",
+        Verdict::Duplicate => "duplicate",
+        Verdict::Heard => "heard",
+    })
+}

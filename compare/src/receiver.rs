@@ -1,0 +1,270 @@
+//! The calls of a receiver in document 01's terms, one method for each, with
+//! plain answers. Refusals are document 01's numbers.
+
+use std::fmt;
+
+/// The most fixed fields that a listed type has (300191).
+pub const NUMBERS: usize = 8;
+/// The most bytes of texts that a listed type has (390094).
+pub const TEXTS: usize = 24;
+/// Places for channels in a tracker.
+pub const CHANNELS: usize = 8;
+/// Places for runs in a channel.
+pub const RUNS: usize = 32;
+/// Places for runs in a tracker: those of channel c begin at c times `RUNS`.
+pub const PLACES: usize = CHANNELS * RUNS;
+
+/// The frame reader's answer.
+#[derive(Clone, Copy, PartialEq, Eq, Debug)]
+pub enum FrameAnswer {
+    Refused(u32),
+    /// The type; the body as the lent bytes from `from` to `to`; 12+L.
+    Frame {
+        kind: u32,
+        from: usize,
+        to: usize,
+        size: usize,
+    },
+}
+
+/// A record: the type, its fixed fields as numbers and its texts, each in
+/// the order of document 01's table. A group count is a fixed field; so are
+/// side, order type and execution type. Texts stand one behind the other.
+/// Unused places are zero.
+#[derive(Clone, Copy, PartialEq, Eq, Debug)]
+pub struct Record {
+    pub kind: u32,
+    pub numbers: [i64; NUMBERS],
+    pub texts: [u8; TEXTS],
+}
+
+/// The record reader's answer.
+#[derive(Clone, Copy, PartialEq, Eq, Debug)]
+pub enum ReadAnswer {
+    Refused(u32),
+    /// An unlisted type, with the length of its body.
+    Unknown {
+        kind: u32,
+        length: usize,
+    },
+    Record(Record),
+}
+
+/// An answer to something asked for by position.
+#[derive(Clone, Copy, PartialEq, Eq, Debug)]
+pub enum Found<T> {
+    Refused(u32),
+    NoSuchEntry,
+    Found(T),
+}
+
+/// What an entry says: exactly one of seven things.
+#[derive(Clone, Copy, PartialEq, Eq, Debug)]
+pub enum Says {
+    Level {
+        price: i64,
+        size: i64,
+        level: u16,
+        order_count: i64,
+    },
+    LevelWithoutPrice {
+        size: i64,
+        level: u16,
+        order_count: i64,
+    },
+    Price {
+        price: i64,
+    },
+    Size {
+        size: i64,
+    },
+    PriceAndSize {
+        price: i64,
+        size: i64,
+    },
+    NoLimit,
+    Unknown,
+}
+
+/// An entry: its two type characters, its shown count (0 in 309011) and what
+/// it says.
+#[derive(Clone, Copy, PartialEq, Eq, Debug)]
+pub struct Entry {
+    pub kind: [u8; 2],
+    pub shown: u32,
+    pub says: Says,
+}
+
+/// A group: of 390090, of 390013, or an entry of 300111 and 309011.
+#[derive(Clone, Copy, PartialEq, Eq, Debug)]
+pub enum Group {
+    Statistics {
+        stream: [u8; 3],
+        stock_number: u32,
+        phase: [u8; 8],
+    },
+    SecurityStatus {
+        switch_type: u16,
+        yes_no: u16,
+    },
+    Entry(Entry),
+}
+
+/// A stepping cursor: the place of the next entry in the body, and the
+/// number of entries left.
+#[derive(Clone, Copy, PartialEq, Eq, Debug)]
+pub struct Cursor {
+    pub place: u64,
+    pub left: u32,
+}
+
+/// A step's answer: the entry and the cursor behind it.
+#[derive(Clone, Copy, PartialEq, Eq, Debug)]
+pub struct Step {
+    pub entry: Entry,
+    pub next: Cursor,
+}
+
+/// What the writer takes: the type, fixed fields as numbers in the order of
+/// `Record`, texts and groups as lent bytes in wire layout. Each number fits
+/// its field's width; places behind the type's fields play no part.
+#[derive(Clone, Copy, PartialEq, Eq, Debug)]
+pub struct Draft<'a> {
+    pub kind: u32,
+    pub numbers: [i64; NUMBERS],
+    pub texts: &'a [u8],
+    pub groups: &'a [u8],
+}
+
+/// The writer's answer: 12+L, the bytes written.
+#[derive(Clone, Copy, PartialEq, Eq, Debug)]
+pub enum WriteAnswer {
+    Refused(u32),
+    Written(usize),
+}
+
+/// A tracker as plain arrays. Unused places are zero.
+#[derive(Clone, Copy, PartialEq, Eq)]
+pub struct Tracker {
+    /// How many channels there are.
+    pub count: u32,
+    /// The channel numbers, strictly ascending.
+    pub numbers: [u16; CHANNELS],
+    /// Each channel's highest number.
+    pub highest: [u64; CHANNELS],
+    /// Each channel's ended mark, 0 or 1.
+    pub ended: [u8; CHANNELS],
+    /// How many runs of missing numbers each channel has.
+    pub counts: [u32; CHANNELS],
+    /// The first number of each run.
+    pub first: [u64; PLACES],
+    /// The last number of each run.
+    pub last: [u64; PLACES],
+}
+
+impl Tracker {
+    /// The all-zero tracker, with no channel.
+    pub const ZERO: Tracker = Tracker {
+        count: 0,
+        numbers: [0; CHANNELS],
+        highest: [0; CHANNELS],
+        ended: [0; CHANNELS],
+        counts: [0; CHANNELS],
+        first: [0; PLACES],
+        last: [0; PLACES],
+    };
+}
+
+impl fmt::Debug for Tracker {
+    /// All but the run places that are zero.
+    fn fmt(&self, out: &mut fmt::Formatter<'_>) -> fmt::Result {
+        write!(
+            out,
+            "Tracker {{ count {}, numbers {:?}, highest {:?}, ended {:?}, counts {:?}, runs",
+            self.count, self.numbers, self.highest, self.ended, self.counts
+        )?;
+        for place in 0..PLACES {
+            let (first, last) = (self.first[place], self.last[place]);
+            if first != 0 || last != 0 {
+                write!(out, " [{place}] {first}-{last}")?;
+            }
+        }
+        write!(out, " }}")
+    }
+}
+
+/// The answer to a set-up: a refusal's number, if any, and the tracker.
+#[derive(Clone, Copy, PartialEq, Eq, Debug)]
+pub struct SetUpAnswer {
+    pub refused: Option<u32>,
+    pub tracker: Tracker,
+}
+
+/// How an arrival is answered.
+#[derive(Clone, Copy, PartialEq, Eq, Debug)]
+pub enum Verdict {
+    Refused(u32),
+    New,
+    Late,
+    Duplicate,
+    Heard,
+}
+
+/// The answer to an arrival: the verdict and the next tracker.
+#[derive(Clone, Copy, PartialEq, Eq, Debug)]
+pub struct ArrivalAnswer {
+    pub verdict: Verdict,
+    pub next: Tracker,
+}
+
+/// The answer to a request: the bytes written.
+#[derive(Clone, Copy, PartialEq, Eq, Debug)]
+pub enum RequestAnswer {
+    Refused(u32),
+    NothingMissing,
+    Written(usize),
+}
+
+/// The calls of a receiver.
+pub trait Receiver {
+    /// Reads the frame at the beginning of the bytes: 1 to 3.
+    fn frame(&self, bytes: &[u8]) -> FrameAnswer;
+
+    /// Reads a body: unknown, 4, 5 or the record.
+    fn read(&self, kind: u32, body: &[u8]) -> ReadAnswer;
+
+    /// A group by position: 4 and 5 for the whole body, then "no such entry".
+    /// The groups of 300111 and 309011 are their entries.
+    fn group(&self, kind: u32, body: &[u8], position: u32) -> Found<Group>;
+
+    /// An entry of 300111 or 309011 by position: 4 and 5 for the whole body,
+    /// then "no such entry". All other types have no entries.
+    fn entry(&self, kind: u32, body: &[u8], position: u32) -> Found<Entry>;
+
+    /// A shown quantity by the positions of entry and quantity: 4 and 5 for
+    /// the whole body, then "no such entry" for either.
+    fn quantity(&self, kind: u32, body: &[u8], entry: u32, position: u32) -> Found<i64>;
+
+    /// The cursor on the first entry: 4 and 5 for the whole body. A type
+    /// without entries has place 0 and 0 left.
+    fn start(&self, kind: u32, body: &[u8]) -> Found<Cursor>;
+
+    /// Steps over one entry: "no such entry" where none is left or the type
+    /// has none; then 4 and 5 for this entry and its shown quantities.
+    fn step(&self, kind: u32, body: &[u8], cursor: Cursor) -> Found<Step>;
+
+    /// Writes a frame: 5 for the type, then 4, 5, 2, 6.
+    fn write(&self, draft: &Draft, output: &mut [u8]) -> WriteAnswer;
+
+    /// Sets up a tracker: 10.
+    fn set_up(&self, channels: &[u16]) -> SetUpAnswer;
+
+    /// A tick arrives: 10, 7, 8, 9.
+    fn tick(&self, tracker: &Tracker, channel: u16, number: i64) -> ArrivalAnswer;
+
+    /// A channel heartbeat arrives: 10, 7, 8, 9.
+    fn heartbeat(&self, tracker: &Tracker, channel: u16, last: i64, end: bool) -> ArrivalAnswer;
+
+    /// Writes the request for the first run: 10, 7, nothing missing, 6.
+    fn request(&self, tracker: &Tracker, channel: u16, output: &mut [u8]) -> RequestAnswer;
+}

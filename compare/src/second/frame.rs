@@ -1,0 +1,55 @@
+//! Frames: type, body length L, body, checksum.
+
+use super::rules::Rules;
+use crate::receiver::FrameAnswer;
+
+/// The bytes of type and length.
+pub const HEADER: usize = 8;
+/// The bytes of a frame beside its body.
+pub const AROUND: usize = 12;
+
+/// Reads the frame at the beginning of the bytes.
+pub fn frame(rules: &Rules, bytes: &[u8]) -> FrameAnswer {
+    match judge(rules, bytes) {
+        Err(refusal) => FrameAnswer::Refused(refusal),
+        Ok((kind, length)) => FrameAnswer::Frame {
+            kind,
+            from: HEADER,
+            to: HEADER + length,
+            size: AROUND + length,
+        },
+    }
+}
+
+/// The type and L; or, in this order, 1, 2, 1, 3.
+fn judge(rules: &Rules, bytes: &[u8]) -> Result<(u32, usize), u32> {
+    if bytes.len() < HEADER {
+        return Err(1);
+    }
+    let length = u64::from(four(bytes, 4));
+    if length > rules.body_limit as u64 {
+        return Err(2);
+    }
+    let length = length as usize;
+    if bytes.len() < AROUND + length {
+        return Err(1);
+    }
+    let end = HEADER + length;
+    if four(bytes, end) != checksum(&bytes[..end]) {
+        return Err(3);
+    }
+    Ok((four(bytes, 0), length))
+}
+
+/// The sum of all bytes modulo 256, held as a 32-bit number.
+pub fn checksum(bytes: &[u8]) -> u32 {
+    let sum: u64 = bytes.iter().map(|byte| u64::from(*byte)).sum();
+    (sum % 256) as u32
+}
+
+/// The four bytes at a place as a big-endian number.
+pub fn four(bytes: &[u8], place: usize) -> u32 {
+    bytes[place..place + 4]
+        .iter()
+        .fold(0, |number, byte| number * 256 + u32::from(*byte))
+}

@@ -1,0 +1,391 @@
+//! The table of what was met in a comparison.
+
+#![forbid(unsafe_code)]
+
+use crate::inputs::{pushes, End, Push, WAYS};
+use crate::second::layout::{layout, LISTED};
+use crate::second::rules::Rules;
+use std::fmt;
+
+/// One part of the table: counts by row and column, and the reason for each
+/// cell that cannot be reached.
+pub struct Section {
+    title: &'static str,
+    rows: Vec<String>,
+    columns: Vec<&'static str>,
+    counts: Vec<Vec<u64>>,
+    reasons: Vec<Vec<Option<&'static str>>>,
+}
+
+impl Section {
+    fn new(
+        title: &'static str,
+        rows: Vec<String>,
+        columns: &[&'static str],
+        reason: impl Fn(usize, &str) -> Option<&'static str>,
+    ) -> Section {
+        let reasons = (0..rows.len())
+            .map(|row| columns.iter().map(|column| reason(row, column)).collect())
+            .collect();
+        let counts = vec![vec![0; columns.len()]; rows.len()];
+        Section {
+            title,
+            rows,
+            columns: columns.to_vec(),
+            counts,
+            reasons,
+        }
+    }
+
+    fn meet(&mut self, row: usize, column: &str) {
+        let place = self.columns.iter().position(|each| *each == column);
+        let place = place.unwrap_or_else(|| panic!("no column {column} in {}", self.title));
+        self.counts[row][place] += 1;
+    }
+
+    /// Reachable cells with fewer than `least`, and others that were met.
+    fn faults(&self, least: u64, faults: &mut Vec<String>) {
+        for (row, name) in self.rows.iter().enumerate() {
+            for (place, column) in self.columns.iter().enumerate() {
+                let count = self.counts[row][place];
+                let cell = format!("{}: {name}: {column}", self.title);
+                match self.reasons[row][place] {
+                    None if count < least => faults.push(format!("{cell}: only {count}")),
+                    Some(_) if count > 0 => {
+                        faults.push(format!("{cell}: met {count} times, said unreachable"))
+                    }
+                    _ => {}
+                }
+            }
+        }
+    }
+
+    /// The reasons for cells that cannot be reached; each is shown as a
+    /// letter.
+    fn legend(&self) -> Vec<&'static str> {
+        let mut all = Vec::new();
+        for reason in self.reasons.iter().flatten().flatten() {
+            if !all.contains(reason) {
+                all.push(*reason);
+            }
+        }
+        all
+    }
+
+    /// A cell: its count, or the letter of the reason.
+    fn cell(&self, row: usize, place: usize, legend: &[&'static str]) -> String {
+        match self.reasons[row][place] {
+            None => self.counts[row][place].to_string(),
+            Some(reason) => {
+                let letter = legend.iter().position(|each| *each == reason).unwrap_or(0);
+                format!("-{}", char::from(b'a' + letter as u8))
+            }
+        }
+    }
+}
+
+impl fmt::Display for Section {
+    fn fmt(&self, out: &mut fmt::Formatter<'_>) -> fmt::Result {
+        let label = self.rows.iter().map(String::len).max().unwrap_or(0);
+        let legend = self.legend();
+        write!(out, "{}\n{:label$}", self.title, "")?;
+        for column in &self.columns {
+            write!(out, "  {column:>8}")?;
+        }
+        writeln!(out)?;
+        for (row, name) in self.rows.iter().enumerate() {
+            write!(out, "{name:label$}")?;
+            for (place, column) in self.columns.iter().enumerate() {
+                let width = column.len().max(8);
+                write!(out, "  {:>width$}", self.cell(row, place, &legend))?;
+            }
+            writeln!(out)?;
+        }
+        for (place, reason) in legend.iter().enumerate() {
+            writeln!(
+                out,
+                "-{} unreachable: {reason}",
+                char::from(b'a' + place as u8)
+            )?;
+        }
+        Ok(())
+    }
+}
+
+/// The parts of the table.
+#[derive(Clone, Copy)]
+pub enum Part {
+    Reader,
+    Writer,
+    Positions,
+    Entries,
+    Tracker,
+    Malformed,
+    Pushed,
+}
+
+/// The table.
+pub struct Table {
+    sections: [Section; 7],
+    pushes: Vec<(usize, End)>,
+}
+
+impl Table {
+    pub fn new(rules: &Rules) -> Table {
+        let all = pushes(rules);
+        let rows = push_rows(&all);
+        let row_of = |push: &Push| rows.iter().position(|row| *row == push_row(push));
+        let places = all
+            .iter()
+            .map(|push| (row_of(push).expect("a row"), push.end))
+            .collect();
+        Table {
+            sections: [
+                reader(),
+                writer(),
+                positions(),
+                entries(),
+                tracker(),
+                malformed(),
+                pushed(&all, rows),
+            ],
+            pushes: places,
+        }
+    }
+
+    pub fn meet(&mut self, part: Part, row: usize, column: &str) {
+        self.sections[part as usize].meet(row, column);
+    }
+
+    /// A field pushed over an end was refused by 5.
+    pub fn meet_push(&mut self, place: usize, written: bool) {
+        let (row, end) = self.pushes[place];
+        self.meet(Part::Pushed, row, push_column(end, written));
+    }
+
+    /// Reachable cells with fewer than `least`, and unreachable ones met.
+    pub fn faults(&self, least: u64) -> Vec<String> {
+        let mut faults = Vec::new();
+        for section in &self.sections {
+            section.faults(least, &mut faults);
+        }
+        faults
+    }
+}
+
+impl fmt::Display for Table {
+    fn fmt(&self, out: &mut fmt::Formatter<'_>) -> fmt::Result {
+        for section in &self.sections {
+            writeln!(out, "{section}")?;
+        }
+        Ok(())
+    }
+}
+
+/// The row of a type; all unlisted types share one.
+pub fn type_row(kind: u32) -> usize {
+    LISTED
+        .iter()
+        .position(|layout| layout.kind == kind)
+        .unwrap_or(LISTED.len())
+}
+
+fn type_rows() -> Vec<String> {
+    let mut rows: Vec<String> = LISTED
+        .iter()
+        .map(|layout| format!("{} {}", layout.kind, layout.name))
+        .collect();
+    rows.push("unlisted".to_string());
+    rows
+}
+
+fn named(rows: &[&str]) -> Vec<String> {
+    rows.iter().map(|row| row.to_string()).collect()
+}
+
+/// Frames and records read, by type.
+fn reader() -> Section {
+    let columns = ["accepted", "1", "2", "3", "4", "5", "6"];
+    Section::new("reader", type_rows(), &columns, |row, column| {
+        match (row, column) {
+            (_, "6") => Some("the reader has no output"),
+            (10, "4" | "5") => Some("an unlisted type is never refused"),
+            (0, "4") => Some("a heartbeat needs no bytes"),
+            (0, "5") => Some("a heartbeat has no fields"),
+            _ => None,
+        }
+    })
+}
+
+/// Frames written, by type.
+fn writer() -> Section {
+    let columns = ["accepted", "1", "2", "3", "4", "5", "6"];
+    Section::new("writer", type_rows(), &columns, |row, column| {
+        match (row, column) {
+            (_, "1" | "3") => Some("the writer reads no frame"),
+            (10, "5") => None,
+            (10, _) => Some("an unlisted type is refused by 5 before all else"),
+            (0, "5") => Some("a heartbeat has no fields"),
+            (_, "2") if LISTED[row].group.is_empty() => Some("without groups L is fixed and small"),
+            _ => None,
+        }
+    })
+}
+
+/// Calls by position, rows of `Part::Positions`.
+pub const GROUP: usize = 0;
+pub const ENTRY: usize = 1;
+pub const QUANTITY: usize = 2;
+pub const START: usize = 3;
+pub const STEP: usize = 4;
+
+fn positions() -> Section {
+    let rows = named(&["group", "entry", "quantity", "start", "step"]);
+    let columns = ["found", "none", "4", "5"];
+    Section::new("positions", rows, &columns, |row, column| {
+        match (row, column) {
+            (START, "none") => Some("a cursor may have 0 left"),
+            _ => None,
+        }
+    })
+}
+
+/// The seven things that an entry says, columns of `Part::Entries`.
+pub const SAYS: [&str; 7] = [
+    "level",
+    "no price",
+    "price",
+    "size",
+    "price+size",
+    "no limit",
+    "unknown",
+];
+
+/// The row of entries read or written in 300111 or 309011.
+pub fn entry_row(snapshot: bool, written: bool) -> usize {
+    match (snapshot, written) {
+        (true, false) => 0,
+        (true, true) => 1,
+        (false, false) => 2,
+        (false, true) => 3,
+    }
+}
+
+fn entries() -> Section {
+    let rows = named(&[
+        "300111 read",
+        "300111 written",
+        "309011 read",
+        "309011 written",
+    ]);
+    Section::new("entries", rows, &SAYS, |row, column| match (row, column) {
+        (_, "price" | "unknown") => None,
+        (2 | 3, _) => Some("an entry of 309011 is a price or unknown"),
+        _ => None,
+    })
+}
+
+/// Calls of the tracker, rows of `Part::Tracker` and columns of
+/// `Part::Malformed`.
+pub const CALLS: [&str; 4] = ["set-up", "tick", "heartbeat", "request"];
+pub const SET_UP: usize = 0;
+pub const TICK: usize = 1;
+pub const HEARTBEAT: usize = 2;
+pub const REQUEST: usize = 3;
+
+fn tracker() -> Section {
+    let columns = [
+        "accepted",
+        "new",
+        "late",
+        "duplicate",
+        "heard",
+        "written",
+        "nothing",
+        "6",
+        "7",
+        "8",
+        "9",
+        "10",
+    ];
+    Section::new("tracker", named(&CALLS), &columns, |row, column| {
+        match (row, column) {
+            (_, "10") => None,
+            (SET_UP, "accepted") => None,
+            (SET_UP, _) => Some("a set-up is accepted or refused by 10"),
+            (TICK, "new" | "late" | "duplicate") => None,
+            (HEARTBEAT, "heard") => None,
+            (TICK | HEARTBEAT, "7" | "8" | "9") => None,
+            (REQUEST, "written" | "nothing" | "6" | "7") => None,
+            _ => Some("not an answer to this call"),
+        }
+    })
+}
+
+fn malformed() -> Section {
+    Section::new(
+        "malformed trackers, refused by 10",
+        named(&WAYS),
+        &CALLS[1..],
+        |_, _| None,
+    )
+}
+
+/// The row of a field, for a time of one of its parts.
+fn push_row(push: &Push) -> String {
+    let name = layout(push.kind).map_or("", |layout| layout.name);
+    format!("{} {name}: {} {}", push.kind, push.field.name, push.part)
+        .trim_end()
+        .to_string()
+}
+
+fn push_rows(all: &[Push]) -> Vec<String> {
+    let mut rows: Vec<String> = Vec::new();
+    for push in all {
+        let row = push_row(push);
+        if !rows.contains(&row) {
+            rows.push(row);
+        }
+    }
+    rows
+}
+
+fn push_column(end: End, written: bool) -> &'static str {
+    match (end, written) {
+        (End::Below, false) => "below",
+        (End::Above, false) => "above",
+        (End::Other, false) => "other",
+        (End::Below, true) => "written below",
+        (End::Above, true) => "written above",
+        (End::Other, true) => "written other",
+    }
+}
+
+fn pushed(all: &[Push], rows: Vec<String>) -> Section {
+    let columns = [
+        "below",
+        "above",
+        "other",
+        "written below",
+        "written above",
+        "written other",
+    ];
+    let names = rows.clone();
+    let reason = |row: usize, column: &str| {
+        let ends = || all.iter().filter(|push| push_row(push) == names[row]);
+        if ends().any(|push| column.ends_with(push_column(push.end, false))) {
+            return None;
+        }
+        match column.ends_with("other") {
+            true => Some("a range has two ends"),
+            false if ends().any(|push| push.end == End::Other) => Some("characters have no order"),
+            false => Some("the width holds nothing beyond this end"),
+        }
+    };
+    Section::new(
+        "fields pushed over their range, refused by 5",
+        rows,
+        &columns,
+        reason,
+    )
+}

@@ -1,0 +1,40 @@
+//! The second program by itself: document 01's cases, the samples, and the
+//! comparison of the second program with itself and with broken ones.
+
+#[path = "second/arrivals.rs"]
+mod arrivals;
+#[path = "second/broken.rs"]
+mod broken;
+#[path = "second/entries.rs"]
+mod entries;
+#[path = "second/frames.rs"]
+mod frames;
+#[path = "second/itself.rs"]
+mod itself;
+#[path = "second/samples.rs"]
+mod samples;
+#[path = "second/text.rs"]
+mod text;
+#[path = "second/writing.rs"]
+mod writing;
+
+use compare::second::rules::Rules;
+use compare::second::Second;
+
+/// The second program under document 01's rules.
+fn second() -> Second {
+    Second {
+        rules: Rules::base(),
+    }
+}
+
+/// Bytes from hex digits; spaces play no part.
+fn hex(text: &str) -> Vec<u8> {
+    let digits: Vec<u8> = text.bytes().filter(|byte| *byte != b' ').collect();
+    let pairs = digits
+        .chunks(2)
+        .map(|pair| std::str::from_utf8(pair).expect("digits"));
+    pairs
+        .map(|pair| u8::from_str_radix(pair, 16).expect("hex digits"))
+        .collect()
+}

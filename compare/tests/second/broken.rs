@@ -1,0 +1,271 @@
+//! The comparison can fail: broken variants of the second program are each
+//! reported as different.
+
+use super::second;
+use compare::compare::compare;
+use compare::receiver::{
+    ArrivalAnswer, Cursor, Draft, Entry, Found, FrameAnswer, Group, ReadAnswer, Receiver, Record,
+    RequestAnswer, SetUpAnswer, Step, Tracker, Verdict, WriteAnswer,
+};
+use compare::second::rules::Rules;
+use compare::second::Second;
+
+const INPUTS: u64 = 200_000;
+const SEED: u64 = 20_170_401;
+
+/// How a broken receiver's difference is told.
+fn difference(broken: &dyn Receiver) -> Option<String> {
+    let second = second();
+    let answer = compare(broken, &second, &second.rules, INPUTS, SEED);
+    answer.err().map(|difference| difference.to_string())
+}
+
+/// The second program with changed rules is told from itself.
+fn changed(name: &str, change: impl Fn(&mut Rules)) {
+    let mut rules = Rules::base();
+    change(&mut rules);
+    let told = difference(&Second { rules });
+    let told = told.unwrap_or_else(|| panic!("{name}: no difference"));
+    println!("{name}: {}", told.lines().next().unwrap_or(""));
+}
+
+#[test]
+fn limits_one_off() {
+    changed("quantity limit", |rules| rules.quantity_limit -= 1);
+    changed("runs", |rules| rules.runs = 31);
+    changed("mark of no upper limit", |rules| rules.no_upper_limit -= 1);
+    changed("mark of no lower limit", |rules| rules.no_lower_limit += 1);
+    changed("quantity limit above", |rules| rules.quantity_limit += 1);
+    changed("body limit", |rules| rules.body_limit -= 1);
+    changed("body limit above", |rules| rules.body_limit += 1);
+    changed("price limit", |rules| rules.price_limit -= 1);
+    changed("price limit above", |rules| rules.price_limit += 1);
+    changed("entry price limit", |rules| rules.entry_price_limit -= 1);
+    changed("entry price limit above", |rules| {
+        rules.entry_price_limit += 1
+    });
+    changed("amount limit", |rules| rules.amount_limit -= 1);
+    changed("amount limit above", |rules| rules.amount_limit += 1);
+    changed("channels", |rules| rules.channels = 7);
+    changed("batch", |rules| rules.batch = 199);
+    changed("batch above", |rules| rules.batch = 201);
+    changed("first number", |rules| rules.first_number = 2);
+    changed("highest number", |rules| rules.number_limit -= 1);
+    changed("highest number above", |rules| rules.number_limit += 1);
+}
+
+#[test]
+fn ranges_one_off() {
+    changed("references", |rules| rules.reference_from = 1);
+    changed("references below", |rules| rules.reference_from = -1);
+    changed("record numbers", |rules| rules.record_from = 2);
+    changed("record numbers below", |rules| rules.record_from = 0);
+    changed("yes/no", |rules| rules.yes_no = (0, 2));
+    changed("yes", |rules| rules.yes_no = (1, 1));
+    changed("resend types", |rules| rules.resend_types = (1, 3));
+    changed("resend types below", |rules| rules.resend_types = (0, 2));
+    changed("statuses", |rules| rules.statuses = (0, 3));
+    changed("statuses above", |rules| rules.statuses = (0, 5));
+    changed("sides", |rules| rules.sides = b"12G");
+    changed("more sides", |rules| rules.sides = b"12GFf");
+    changed("order types", |rules| rules.order_types = b"12");
+    changed("executions", |rules| rules.executions = b"F");
+    changed("years", |rules| rules.years = (0, 9998));
+    changed("years above", |rules| rules.years = (0, 10_000));
+    changed("months", |rules| rules.months = (0, 12));
+    changed("months above", |rules| rules.months = (1, 13));
+    changed("days", |rules| rules.days = (0, 31));
+    changed("days above", |rules| rules.days = (1, 30));
+    changed("hours", |rules| rules.hours = (0, 24));
+    changed("minutes", |rules| rules.minutes = (0, 60));
+    changed("seconds", |rules| rules.seconds = (0, 59));
+    changed("seconds above", |rules| rules.seconds = (0, 61));
+}
+
+/// Ways to break a receiver that no rule names.
+#[derive(Clone, Copy, PartialEq, Eq, Debug)]
+enum How {
+    RefusesEveryFrame,
+    AnswersHeartbeatAlways,
+    MadeUpFrameLength,
+    WritesNothing,
+    WritesBehindTheFrame,
+    RefusalChangesTheOutput,
+    RequestChangesTheOutput,
+    KeepsItsState,
+    NewEverAfter,
+    MadeUpRun,
+    RefusalSetsTheMark,
+    PositionBeforeRefusal,
+    StepsTooFar,
+}
+
+const ALL: [How; 13] = [
+    How::RefusesEveryFrame,
+    How::AnswersHeartbeatAlways,
+    How::MadeUpFrameLength,
+    How::WritesNothing,
+    How::WritesBehindTheFrame,
+    How::RefusalChangesTheOutput,
+    How::RequestChangesTheOutput,
+    How::KeepsItsState,
+    How::NewEverAfter,
+    How::MadeUpRun,
+    How::RefusalSetsTheMark,
+    How::PositionBeforeRefusal,
+    How::StepsTooFar,
+];
+
+/// The second program, broken in one way.
+struct Broken {
+    second: Second,
+    how: How,
+}
+
+impl Broken {
+    fn is(&self, how: How) -> bool {
+        self.how == how
+    }
+}
+
+impl Receiver for Broken {
+    fn frame(&self, bytes: &[u8]) -> FrameAnswer {
+        match (self.how, self.second.frame(bytes)) {
+            (How::RefusesEveryFrame, _) => FrameAnswer::Refused(1),
+            (How::MadeUpFrameLength, FrameAnswer::Frame { kind, from, to, .. }) => {
+                FrameAnswer::Frame {
+                    kind,
+                    from,
+                    to,
+                    size: bytes.len(),
+                }
+            }
+            (_, answer) => answer,
+        }
+    }
+
+    fn read(&self, kind: u32, body: &[u8]) -> ReadAnswer {
+        if self.is(How::AnswersHeartbeatAlways) {
+            return ReadAnswer::Record(Record {
+                kind: 3,
+                numbers: [0; 8],
+                texts: [0; 24],
+            });
+        }
+        self.second.read(kind, body)
+    }
+
+    fn group(&self, kind: u32, body: &[u8], position: u32) -> Found<Group> {
+        self.second.group(kind, body, position)
+    }
+
+    fn entry(&self, kind: u32, body: &[u8], position: u32) -> Found<Entry> {
+        if self.is(How::PositionBeforeRefusal) && position == u32::MAX {
+            return Found::NoSuchEntry;
+        }
+        self.second.entry(kind, body, position)
+    }
+
+    fn quantity(&self, kind: u32, body: &[u8], entry: u32, position: u32) -> Found<i64> {
+        self.second.quantity(kind, body, entry, position)
+    }
+
+    fn start(&self, kind: u32, body: &[u8]) -> Found<Cursor> {
+        self.second.start(kind, body)
+    }
+
+    fn step(&self, kind: u32, body: &[u8], cursor: Cursor) -> Found<Step> {
+        match (self.how, self.second.step(kind, body, cursor)) {
+            (How::StepsTooFar, Found::Found(mut step)) => {
+                step.next.left = cursor.left;
+                Found::Found(step)
+            }
+            (_, answer) => answer,
+        }
+    }
+
+    fn write(&self, draft: &Draft, output: &mut [u8]) -> WriteAnswer {
+        let before = output.to_vec();
+        let answer = self.second.write(draft, output);
+        match (self.how, answer) {
+            (How::WritesNothing, _) => output.copy_from_slice(&before),
+            (How::WritesBehindTheFrame, WriteAnswer::Written(size)) if size < output.len() => {
+                output[size] = !output[size];
+            }
+            (How::RefusalChangesTheOutput, WriteAnswer::Refused(2)) if !output.is_empty() => {
+                output[0] = !output[0];
+            }
+            _ => {}
+        }
+        answer
+    }
+
+    fn set_up(&self, channels: &[u16]) -> SetUpAnswer {
+        self.second.set_up(channels)
+    }
+
+    fn tick(&self, tracker: &Tracker, channel: u16, number: i64) -> ArrivalAnswer {
+        let mut answer = self.second.tick(tracker, channel, number);
+        let refused = matches!(answer.verdict, Verdict::Refused(_));
+        match self.how {
+            How::KeepsItsState => answer.next = *tracker,
+            How::NewEverAfter if !refused && tracker.highest != [0; 8] => {
+                answer = ArrivalAnswer {
+                    verdict: Verdict::New,
+                    next: *tracker,
+                }
+            }
+            How::MadeUpRun if answer.verdict == Verdict::New => {
+                answer.next.first[255] = number as u64
+            }
+            _ => {}
+        }
+        answer
+    }
+
+    fn heartbeat(&self, tracker: &Tracker, channel: u16, last: i64, end: bool) -> ArrivalAnswer {
+        let mut answer = self.second.heartbeat(tracker, channel, last, end);
+        if self.is(How::RefusalSetsTheMark) && answer.verdict == Verdict::Refused(9) && end {
+            answer.next.ended[0] = 1;
+        }
+        answer
+    }
+
+    fn request(&self, tracker: &Tracker, channel: u16, output: &mut [u8]) -> RequestAnswer {
+        let answer = self.second.request(tracker, channel, output);
+        let nothing = answer == RequestAnswer::NothingMissing;
+        if self.is(How::RequestChangesTheOutput) && nothing && !output.is_empty() {
+            output[0] = !output[0];
+        }
+        answer
+    }
+}
+
+#[test]
+fn broken_receivers_are_told() {
+    for how in ALL {
+        let told = difference(&Broken {
+            second: second(),
+            how,
+        });
+        let told = told.unwrap_or_else(|| panic!("{how:?}: no difference"));
+        println!("{how:?}: {}", told.lines().next().unwrap_or(""));
+    }
+}
+
+#[test]
+fn a_difference_tells_input_and_answers() {
+    let told = difference(&Broken {
+        second: second(),
+        how: How::RefusesEveryFrame,
+    });
+    let told = told.expect("a difference");
+    assert!(
+        told.starts_with("difference at input 0 of seed 20170401\nframe ("),
+        "{told}"
+    );
+    assert!(
+        told.contains("call:   frame\nfirst:  Refused(1)\nsecond: Frame {"),
+        "{told}"
+    );
+}

@@ -1,0 +1,39 @@
+//! The comparison: the second program agrees with itself, and every cell
+//! that can be reached is met.
+
+use super::second;
+use compare::compare::compare;
+use compare::inputs::Inputs;
+
+const INPUTS: u64 = 200_000;
+const SEED: u64 = 20_170_401;
+const LEAST: u64 = 100;
+
+#[test]
+fn second_program_agrees_with_itself() {
+    let second = second();
+    let table = match compare(&second, &second, &second.rules, INPUTS, SEED) {
+        Ok(table) => table,
+        Err(difference) => panic!("{difference}"),
+    };
+    println!("{table}");
+    assert_eq!(table.faults(LEAST), Vec::<String>::new());
+}
+
+#[test]
+fn few_inputs_leave_cells_unmet() {
+    let second = second();
+    let Ok(table) = compare(&second, &second, &second.rules, 1_000, SEED) else {
+        panic!("a difference with itself");
+    };
+    assert!(!table.faults(LEAST).is_empty());
+}
+
+#[test]
+fn inputs_are_the_same_for_the_same_seed() {
+    let rules = second().rules;
+    let (one, two) = (Inputs::new(&rules, 7), Inputs::new(&rules, 7));
+    let other = Inputs::new(&rules, 8);
+    assert!((0..500).all(|index| one.input(index) == two.input(index)));
+    assert!((0..500).any(|index| one.input(index) != other.input(index)));
+}
