@@ -1,0 +1,10 @@
+// Cases of document 01 that are run: what the writer refuses, with the output that it leaves; and a full gap table.
+mod refused;
+mod table;
+
+fn main() {
+    let mut lines = [0u8; 4096];
+    let a = refused::cases(&mut lines, 0);
+    let b = table::cases(&mut lines, a);
+    window::flush(&lines, b, 4097);
+}
