@@ -6,7 +6,7 @@ use mathlib.Core.List.{List, [], _∷_, _++_, append-assoc, append-nil}
 use native.Mathlib.Omega.{arith}
 use lib.ListN.{length, take, drop, length-append, length-drop, drop-of-length-le, take-append-drop}
 use lib.Seq.{take-all, drop-drop, take-append-seam}
-use Rattle.wire.specs.Bytes.{digits, splice, placed, checksumOf}
+use Rattle.wire.specs.Bytes.{digits, part, splice, placed, checksumOf}
 use Rattle.wire.proofs.Digits.{length-digits}
 use Rattle.wire.proofs.Place.{placed-fits, length-splice, splice-more}
 use Rattle.layout.specs.Layout.{size}
@@ -100,12 +100,13 @@ module _ (o : List ℕ) (t size l : ℕ) (fs gs : List ℕ) (n : length fs ≡ s
   -- the checksum behind them
   pub whole : (x y p m z : List ℕ) (c : ℕ) → x ≡ placed o 0 (digits 4 t) → y ≡ placed x 4 (digits 4 l) →
       p ≡ splice (take (length y - 8) (drop 8 y)) 0 fs → m ≡ placed (take 8 y ++ (p ++ drop (length y - 8) (drop 8 y))) (8 + size) gs →
-      c ≡ checksumOf (take (8 + l) m) → z ≡ placed m (8 + l) (digits 4 c) → z ≡ splice o 0 (frameOf t (fs ++ gs))
+      c ≡ checksumOf (part 0 (8 + l) m) → z ≡ placed m (8 + l) (digits 4 c) → z ≡ splice o 0 (frameOf t (fs ++ gs))
   unfolding withSum
   whole x y p m z c ex ey ep em ec ez =
       let s : List ℕ = header t l ++ (fs ++ gs) in
       let e : m ≡ splice o 0 s = front x y p m ex ey ep em in
-      let g : take (8 + l) m ≡ s = rw e (take-splice o s (8 + l) long) in
+      let v : 8 + l - 0 ≡ 8 + l = omega arith in
+      let g : part 0 (8 + l) m ≡ s = rw (e, v) (take-splice o s (8 + l) long) in
       let f : c ≡ checksumOf s = ec ∙ ap checksumOf g in
       let i : length (fs ++ gs) ≡ l = length-append fs gs ∙ omega arith in
       let lc : length (digits 4 c) ≡ 4 = length-digits 4 c in
