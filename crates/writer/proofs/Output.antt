@@ -1,11 +1,11 @@
 -- A frame that is stored in parts: type, length, fields in the part from place 8 on, groups behind them, checksum behind all. "Exactly 12+L bytes change".
 -- Assumes nothing.
-use Prim.Native.Nat.{ℕ, _+_, _-_, _<_, _≤_}
-use mathlib.Core.Path.{_≡_, refl, ap, sym, _∙_}
-use mathlib.Core.List.{List, [], _∷_, _++_, append-assoc, append-nil}
+use Prim.Native.Nat.{ℕ, _+_, _-_, _≤_}
+use mathlib.Core.Path.{_≡_, refl, ap, _∙_}
+use mathlib.Core.List.{List, [], _++_, append-assoc, append-nil}
 use native.Mathlib.Omega.{arith}
-use lib.ListN.{length, take, drop, length-append, length-drop, drop-of-length-le, take-append-drop}
-use lib.Seq.{take-all, drop-drop, take-append-seam}
+use lib.ListN.{length, take, drop, length-append, length-drop, drop-of-length-le}
+use lib.Seq.{take-all, drop-drop, take-append-seam, length-take-le}
 use Rattle.wire.specs.Bytes.{digits, part, splice, placed, checksumOf}
 use Rattle.wire.proofs.Digits.{length-digits}
 use Rattle.wire.proofs.Place.{placed-fits, length-splice, splice-more}
@@ -23,6 +23,15 @@ use Rattle.writer.proofs.Round.{length-encode}
 
 pub length-fields : (r : Record) (ts : List ℕ) → length ts ≡ textSize (layoutIn (paperRecord r)) → length (fieldsOf r ts) ≡ size (layoutIn (paperRecord r))
 length-fields r ts h = length-encode (layoutIn (paperRecord r)) (numbersOf (paperRecord r)) ts h
+
+-- what the code asks in the arm of a record: room in the output, and of the texts and the part that is lent
+pub room : (v : Record) (y : List ℕ) {r : Record} → r ≡ v → size (layoutIn (paperRecord r)) ≤ length y → size (layoutIn (paperRecord v)) ≤ length y
+room v y e h = rw e at h
+
+pub asked :
+    (v : Record) (ts y : List ℕ) {r : Record} → r ≡ v → length ts ≡ textSize (layoutIn (paperRecord r)) → size (layoutIn (paperRecord r)) ≤ length y →
+    (length ts ≡ textSize (layoutIn (paperRecord v))) × (length (take (size (layoutIn (paperRecord v))) y) ≡ size (layoutIn (paperRecord v)))
+asked v ts y e h k = (rw e at h, length-take-le (size (layoutIn (paperRecord v))) y (room v y e k))
 
 pub nothing-stored : (y : List ℕ) → y ≡ splice y 0 []
 unfolding splice

@@ -2,8 +2,7 @@ use borrow.Author.Needs.{needs}
 use Prim.Native.Nat.{ℕ, _+_, _-_}
 use denote.Ref.{now}
 use lib.ListN.{length}
-use mathlib.Core.Path.{_≡_, refl, sym, _∙_}
-use native.Mathlib.Omega.{arith}
+use mathlib.Core.Path.{refl, sym, _∙_}
 use Rattle.writer.specs.Parts.{fieldsOf}
 use Rattle.writer.proofs.Output.{length-fields, whole}
 use Rattle.writer.proofs.store.store.Statement.{statement}
