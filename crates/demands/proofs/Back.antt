@@ -2,25 +2,24 @@
 -- Assumes nothing.
 use Prim.Native.Nat.{ℕ, _+_, _-_, _^_, _<_, _≤_}
 use mathlib.Core.Path.{_≡_, refl, ap, sym, _∙_}
-use mathlib.Core.List.{List, [], _∷_, _++_}
+use mathlib.Core.List.{List, _++_}
 use native.Mathlib.Omega.{arith}
 use lib.Dec.{lit<}
 use lib.IntN.{ℤ}
 use lib.ListN.{length, take, drop, length-drop}
 use lib.Seq.{length-take-le}
-use Rattle.wire.specs.Answer.{Answer, accepted, guard}
-use Rattle.wire.specs.Bytes.{Bytes, part, splice}
+use Rattle.wire.specs.Answer.{accepted, guard}
+use Rattle.wire.specs.Bytes.{Bytes, splice}
 use Rattle.wire.proofs.Digits.{bytes-take, bytes-drop}
 use Rattle.frame.specs.Framing.{headerWidth, bodyLimit, framing, bodyOf}
 use Rattle.frame.specs.declared.Frame.{Frame}
 use Rattle.frame.proofs.Framing as frame-laws
-use Rattle.layout.specs.Layout.{Message, heartbeat, channelHeartbeat, resend, statistics, securityStatus, snapshot, index, volumeIndex, order, trade, fields, typeNumber, listed, named, size, values, texts}
+use Rattle.layout.specs.Layout.{Message, heartbeat, channelHeartbeat, resend, statistics, securityStatus, snapshot, index, volumeIndex, order, trade, fields, typeNumber, listed, named, values, texts}
 use Rattle.layout.specs.Group.{place, group, start, count, judged}
-use Rattle.record.specs.Asked.{told}
-use Rattle.record.specs.Record.{Reading, known, readAs, reading, frameReading, groupsAs, groupsPart}
+use Rattle.record.specs.Record.{known, readAs, reading, frameReading, groupsAs, groupsPart}
 use Rattle.record.proofs.Choice.{named-as, named-back}
 use Rattle.writer.specs.Body.{Numbers, body, bodyLength}
-use Rattle.writer.specs.Write.{frameOf, frameLength, judgedAs, leaving}
+use Rattle.writer.specs.Write.{frameOf, frameLength, judgedAs}
 use Rattle.writer.proofs.Bodies.{same, exactly, reads, again-from}
 use Rattle.writer.proofs.Frames.{said, framed, framed-again}
 use Rattle.writer.proofs.Judging.{known-of, fit-whole}

@@ -8,31 +8,27 @@ use native.Mathlib.Omega.{arith}
 use borrow.Author.Tests.{ltb-true, ltb-false}
 use lib.Dec.{ltb}
 use lib.IntN.{ℤ}
-use lib.ListN.{length, take, drop, length-append}
+use lib.ListN.{length, take, length-append}
 use lib.Seq.{take-append-seam}
 use Rattle.wire.specs.Answer.{Answer, accepted, refused, guard}
-use Rattle.wire.specs.Bytes.{Bytes, beAt, part, splice}
+use Rattle.wire.specs.Bytes.{beAt, part, splice}
 use Rattle.wire.specs.Refusal.{tooLong, notItsLayout, outOfRange, outputShort}
 use Rattle.wire.proofs.Digits.{length-digits}
-use Rattle.frame.specs.Framing.{framing, framed, bodyOf, headerWidth, bodyLimit}
+use Rattle.frame.specs.Framing.{framing, bodyOf, headerWidth, bodyLimit}
 use Rattle.frame.specs.declared.Frame.{Frame}
 use Rattle.frame.proofs.Framing as frame-laws
 use Rattle.layout.specs.Layout.{Message, fields, typeNumber, Listed, listed, unlisted, named, values, texts}
-use Rattle.layout.specs.Group.{whole, inRange, verdict, judged}
-use Rattle.record.specs.Asked.{Told, told, onceAccepted, filled, zeros}
-use Rattle.record.specs.Record.{Reading, known, unknown, readAs, readListed, reading, frameRead, frameReading, groupsAs, groupsPart}
+use Rattle.layout.specs.Group.{whole, inRange, judged}
+use Rattle.record.specs.Asked.{Told, told}
+use Rattle.record.specs.Record.{Reading, known, unknown, readAs, readListed, reading, frameReading, groupsAs, groupsPart}
 use Rattle.record.specs.Paper.{paperRecord, paperFrame}
-use Rattle.record.specs.declared.Record.{Record}
-use Rattle.record.specs.declared.framed.FrameReading.{FrameReading}
 use Rattle.writer.specs.Body.{encode, body, bodyLength, exact, allIn}
-use Rattle.writer.specs.Write.{header, withSum, frameOf, frameLength, fitting, judgedAs, judging, outputOf, answering, leaving}
+use Rattle.writer.specs.Write.{header, withSum, frameOf, frameLength, judgedAs, judging, outputOf, answering, leaving}
 use Rattle.writer.proofs.Bodies.{exactly}
 use Rattle.writer.proofs.Judging.{known-of}
 use Rattle.writer.proofs.Round.{length-encode}
-use Rattle.writer.specs.Paper.{paper}
-use Rattle.writer.specs.declared.Written.{Written}
-use Rattle.demands.specs.Demand1.{Rule, _if_, Judged, success, here, later, L, frameRules}
-use Rattle.demands.specs.Demand2.{Lacks, Strays, readerRules, Reader, Call, writerRules, Holds, frame-first, as-it-stood, Writer, Output, Held, Reads, ReadsBack, NoTail, SameBytes}
+use Rattle.demands.specs.Demand1.{Rule, _if_, Judged, success, here, later, L}
+use Rattle.demands.specs.Demand2.{Lacks, Strays, Reader, writerRules, Holds, frame-first, as-it-stood, Writer, Output, Held, Reads, ReadsBack, SameBytes}
 use Rattle.demands.proofs.Demand1.{by-reading}
 use Rattle.demands.proofs.Back.{back-known, judged-again, bytes-again}
 

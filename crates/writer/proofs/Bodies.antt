@@ -1,21 +1,21 @@
 -- A body that is made of numbers, texts and groups reads back as these; a body that is read is made of what was read.
 -- Assumes nothing.
 use Prim.Native.Nat.{ℕ, _+_, _-_, _≤_}
-use mathlib.Core.Path.{_≡_, refl, ap, sym, _∙_}
-use mathlib.Core.Bool.{Bool, true, false, _&&_}
-use mathlib.Core.List.{List, [], _∷_, _++_}
+use mathlib.Core.Path.{_≡_, ap, sym, _∙_}
+use mathlib.Core.Bool.{true, false, _&&_}
+use mathlib.Core.List.{List, [], _++_}
 use native.Mathlib.Omega.{arith}
 use borrow.Author.Tests.{le-leb, leb-true, eq-eqb, eqb-true}
 use lib.Dec.{leb, eqb, lit≤}
 use lib.IntN.{ℤ}
-use lib.ListN.{length, take, drop, length-append, length-drop, take-append-drop}
-use lib.Seq.{take-all, drop-at, length-take-le}
-use Rattle.wire.specs.Answer.{Answer, accepted, guard}
-use Rattle.wire.specs.Bytes.{Bytes, part}
-use Rattle.layout.specs.Layout.{Message, heartbeat, channelHeartbeat, resend, statistics, securityStatus, snapshot, index, volumeIndex, order, trade, fields, size, ranges, values, texts}
-use Rattle.layout.specs.Group.{place, fit, groupRanges, group, start, count, whole, inRange, verdict, judged}
+use lib.ListN.{length, drop, length-append, length-drop, take-append-drop}
+use lib.Seq.{take-all, drop-at}
+use Rattle.wire.specs.Answer.{accepted, guard}
+use Rattle.wire.specs.Bytes.{Bytes}
+use Rattle.layout.specs.Layout.{Message, heartbeat, channelHeartbeat, resend, statistics, securityStatus, snapshot, index, volumeIndex, order, trade, fields, size, values, texts}
+use Rattle.layout.specs.Group.{place, fit, groupRanges, group, start, count, whole, inRange, judged}
 use Rattle.layout.proofs.Walk.{and-both, good}
-use Rattle.record.specs.Record.{groupsAs, partAccepted}
+use Rattle.record.specs.Record.{groupsAs}
 use Rattle.writer.specs.Body.{Numbers, encode, body, bodyLength, textSize, stated, even, exact, numbersIn, allIn}
 use Rattle.writer.proofs.Round.{round, length-encode, again}
 use Rattle.writer.proofs.Numbers.{count-back, numbers-read, texts-read}

@@ -1,20 +1,20 @@
 -- A header, a body and their checksum read back as that frame, whatever stands behind it; a frame that reads is its header, its body and their checksum. Over the header's width and the body limit.
 -- Assumes nothing.
-use Prim.Native.Nat.{ℕ, _+_, _-_, _%_, _^_, _<_, _≤_}
+use Prim.Native.Nat.{ℕ, _+_, _-_, _^_, _<_, _≤_}
 use mathlib.Core.Path.{_≡_, refl, ap, sym, _∙_}
-use mathlib.Core.List.{List, [], _∷_, _++_, append-assoc, append-nil}
+use mathlib.Core.List.{List, [], _++_, append-assoc, append-nil}
 use native.Mathlib.Omega.{arith}
-use lib.Dec.{lit<, lit≤}
+use lib.Dec.{lit≤}
 use lib.ListN.{length, take, drop, length-append, length-drop}
-use lib.Seq.{take-at, drop-at, take-add, take-all, length-take-le, take-append-seam}
-use Rattle.wire.specs.Answer.{Answer, accepted}
-use Rattle.wire.specs.Bytes.{Bytes, be, beAt, digits, part, total, checksumOf}
+use lib.Seq.{drop-at, take-add, length-take-le, take-append-seam}
+use Rattle.wire.specs.Answer.{accepted}
+use Rattle.wire.specs.Bytes.{Bytes, beAt, digits, part, total, checksumOf}
 use Rattle.wire.proofs.Be.{beAt-between, beAt-behind, fewer}
 use Rattle.wire.proofs.Digits.{length-digits, be-digits, digits-beAt}
-use Rattle.frame.specs.Framing.{headerWidth, sumWidth, bodyLimit, typeOf, lengthOf, framing, bodyOf}
+use Rattle.frame.specs.Framing.{headerWidth, sumWidth, bodyLimit, typeOf, lengthOf, framing}
 use Rattle.frame.specs.declared.Frame.{Frame}
-use Rattle.frame.proofs.Framing.{Accepted, read-as, whole, known-of}
-use Rattle.writer.specs.Write.{header, withSum, frameOf, frameLength}
+use Rattle.frame.proofs.Framing.{read-as, whole, known-of}
+use Rattle.writer.specs.Write.{header, withSum, frameOf}
 
 -- ---- what is written reads back
 

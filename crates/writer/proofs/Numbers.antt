@@ -8,11 +8,11 @@ use lib.IntN.{ℤ, pos}
 use lib.ListN.{length, take, drop, length-drop, length-append}
 use lib.Seq.{length-take-le}
 use mir.Syntax.{w64}
-use mir.Val.{Fits, SFits, toZ}
+use mir.Val.{Fits, toZ}
 use mir.Facts.{sfits-toZ}
 use Rattle.wire.specs.Bytes.{Bytes, beAt}
 use Rattle.wire.proofs.Digits.{be-bound, bytes-take, bytes-drop}
-use Rattle.layout.specs.Kind.{Kind, channel, number, lastNumber, firstNumber, bidNumber, offerNumber, orderPrice, tradePrice, previousClose, entryPrice, quantity, amount, tradeCount, orderCount, time, side, orderType, execution, entryType, level, groupCount, stockNumber, switchType, yesNo, resendType, status, text, Text, security, source, financialStatus, Form, unsigned, signed, form, width}
+use Rattle.layout.specs.Kind.{Kind, channel, number, lastNumber, firstNumber, bidNumber, offerNumber, orderPrice, tradePrice, previousClose, entryPrice, quantity, amount, tradeCount, orderCount, time, side, orderType, execution, entryType, level, groupCount, stockNumber, switchType, yesNo, resendType, status, text, Text, security, source, financialStatus, unsigned, signed, form, width}
 use Rattle.layout.specs.Layout.{Message, heartbeat, channelHeartbeat, resend, statistics, securityStatus, snapshot, index, volumeIndex, order, trade, fields, commonPart, size, values, texts}
 use Rattle.layout.specs.Group.{count}
 use Rattle.writer.specs.Body.{Holds, plain, sign, Numbers, none, words, bits, last, encode, textSize, stated}

@@ -1,12 +1,12 @@
 -- A frame that is stored in parts: type, length, fields in the part from place 8 on, groups behind them, checksum behind all. "Exactly 12+L bytes change".
 -- Assumes nothing.
-use Prim.Native.Nat.{ℕ, _+_, _-_, _<_, _≤_}
-use mathlib.Core.Path.{_≡_, refl, ap, sym, _∙_}
-use mathlib.Core.List.{List, [], _∷_, _++_, append-assoc, append-nil}
+use Prim.Native.Nat.{ℕ, _+_, _-_, _≤_}
+use mathlib.Core.Path.{_≡_, refl, ap, _∙_}
+use mathlib.Core.List.{List, [], _++_, append-assoc, append-nil}
 use native.Mathlib.Omega.{arith}
-use lib.ListN.{length, take, drop, length-append, length-drop, drop-of-length-le, take-append-drop}
-use lib.Seq.{take-all, drop-drop, take-append-seam}
-use Rattle.wire.specs.Bytes.{digits, splice, placed, checksumOf}
+use lib.ListN.{length, take, drop, length-append, length-drop, drop-of-length-le}
+use lib.Seq.{take-all, drop-drop, take-append-seam, length-take-le}
+use Rattle.wire.specs.Bytes.{digits, part, splice, placed, checksumOf}
 use Rattle.wire.proofs.Digits.{length-digits}
 use Rattle.wire.proofs.Place.{placed-fits, length-splice, splice-more}
 use Rattle.layout.specs.Layout.{size}
@@ -23,6 +23,15 @@ use Rattle.writer.proofs.Round.{length-encode}
 
 pub length-fields : (r : Record) (ts : List ℕ) → length ts ≡ textSize (layoutIn (paperRecord r)) → length (fieldsOf r ts) ≡ size (layoutIn (paperRecord r))
 length-fields r ts h = length-encode (layoutIn (paperRecord r)) (numbersOf (paperRecord r)) ts h
+
+-- what the code asks in the arm of a record: room in the output, and of the texts and the part that is lent
+pub room : (v : Record) (y : List ℕ) {r : Record} → r ≡ v → size (layoutIn (paperRecord r)) ≤ length y → size (layoutIn (paperRecord v)) ≤ length y
+room v y e h = rw e at h
+
+pub asked :
+    (v : Record) (ts y : List ℕ) {r : Record} → r ≡ v → length ts ≡ textSize (layoutIn (paperRecord r)) → size (layoutIn (paperRecord r)) ≤ length y →
+    (length ts ≡ textSize (layoutIn (paperRecord v))) × (length (take (size (layoutIn (paperRecord v))) y) ≡ size (layoutIn (paperRecord v)))
+asked v ts y e h k = (rw e at h, length-take-le (size (layoutIn (paperRecord v))) y (room v y e k))
 
 pub nothing-stored : (y : List ℕ) → y ≡ splice y 0 []
 unfolding splice
@@ -100,12 +109,13 @@ module _ (o : List ℕ) (t size l : ℕ) (fs gs : List ℕ) (n : length fs ≡ s
   -- the checksum behind them
   pub whole : (x y p m z : List ℕ) (c : ℕ) → x ≡ placed o 0 (digits 4 t) → y ≡ placed x 4 (digits 4 l) →
       p ≡ splice (take (length y - 8) (drop 8 y)) 0 fs → m ≡ placed (take 8 y ++ (p ++ drop (length y - 8) (drop 8 y))) (8 + size) gs →
-      c ≡ checksumOf (take (8 + l) m) → z ≡ placed m (8 + l) (digits 4 c) → z ≡ splice o 0 (frameOf t (fs ++ gs))
+      c ≡ checksumOf (part 0 (8 + l) m) → z ≡ placed m (8 + l) (digits 4 c) → z ≡ splice o 0 (frameOf t (fs ++ gs))
   unfolding withSum
   whole x y p m z c ex ey ep em ec ez =
       let s : List ℕ = header t l ++ (fs ++ gs) in
       let e : m ≡ splice o 0 s = front x y p m ex ey ep em in
-      let g : take (8 + l) m ≡ s = rw e (take-splice o s (8 + l) long) in
+      let v : 8 + l - 0 ≡ 8 + l = omega arith in
+      let g : part 0 (8 + l) m ≡ s = rw (e, v) (take-splice o s (8 + l) long) in
       let f : c ≡ checksumOf s = ec ∙ ap checksumOf g in
       let i : length (fs ++ gs) ≡ l = length-append fs gs ∙ omega arith in
       let lc : length (digits 4 c) ≡ 4 = length-digits 4 c in

@@ -1,22 +1,22 @@
 -- What is encoded reads back, and what is read and encoded again is the same bytes; once for every layout.
 -- Assumes nothing.
-use Prim.Native.Nat.{ℕ, zero, suc, _+_, _-_, _^_, _<_, _≤_}
-use mathlib.Core.Path.{_≡_, refl, ap, sym, _∙_}
-use mathlib.Core.Bool.{Bool, true, false, _&&_}
-use mathlib.Core.List.{List, [], _∷_, _++_, append-assoc, append-nil}
+use Prim.Native.Nat.{ℕ, _+_, _-_, _^_, _<_, _≤_}
+use mathlib.Core.Path.{_≡_, refl, ap, _∙_}
+use mathlib.Core.Bool.{_&&_}
+use mathlib.Core.List.{List, [], _∷_, _++_, append-assoc}
 use native.Mathlib.Omega.{arith}
-use lib.IntN.{ℤ, pos}
-use lib.ListN.{length, take, drop, length-append, length-drop, length-take, take-append-drop}
+use lib.IntN.{ℤ}
+use lib.ListN.{length, take, drop, length-append, length-drop, take-append-drop}
 use lib.Seq.{drop-append-seam, take-at, drop-at, take-add, drop-drop, length-take-le}
 use mir.Syntax.{w64}
-use mir.Val.{Fits, SFits, toZ, ofZ}
+use mir.Val.{Fits}
 use mir.Facts.{toZ-ofZ, fits-ofZ, ofZ-toZ}
-use Rattle.wire.specs.Bytes.{Bytes, be, beAt, digits}
+use Rattle.wire.specs.Bytes.{Bytes, beAt, digits}
 use Rattle.wire.proofs.Be.{beAt-between}
 use Rattle.wire.proofs.Digits.{length-digits, be-digits, be-bound, digits-beAt, bytes-take, bytes-drop}
-use Rattle.layout.specs.Kind.{Kind, text, Text, Form, unsigned, signed, written, form, bytes, width, characters, valueIn, ranged}
+use Rattle.layout.specs.Kind.{Kind, Form, unsigned, signed, written, form, bytes, width, characters, ranged}
 use Rattle.layout.specs.Layout.{size, ranges, valueAt, values, textAt, texts, textsBehind}
-use Rattle.writer.specs.Body.{Holds, plain, sign, Numbers, none, number, words, bits, first, others, numbersBehind, fieldBytes, encode, textWidth, textSize, numbersIn}
+use Rattle.writer.specs.Body.{Holds, plain, sign, Numbers, none, number, words, bits, first, numbersBehind, fieldBytes, encode, textWidth, textSize, numbersIn}
 
 -- ---- one fixed field that holds a number
 

@@ -1,16 +1,16 @@
 -- Groups behind other bytes: they fit, end and are in range as they do alone; once for every group.
 -- Assumes nothing.
-use Prim.Native.Nat.{ℕ, zero, suc, _+_, _-_, _*_, _<_, _≤_}
-use mathlib.Core.Path.{_≡_, refl, ap, sym, _∙_}
-use mathlib.Core.Bool.{Bool, true, false, _&&_}
+use Prim.Native.Nat.{ℕ, zero, suc, _+_, _-_, _<_, _≤_}
+use mathlib.Core.Path.{_≡_, refl}
+use mathlib.Core.Bool.{Bool, true, false}
 use mathlib.Core.List.{List, [], _∷_, _++_}
 use native.Mathlib.Omega.{arith}
 use lib.Dec.{leb}
-use lib.ListN.{length, take, drop, length-append}
+use lib.ListN.{length, length-append}
 use lib.Seq.{drop-append-add}
 use borrow.Author.Tests.{le-leb, lt-leb, leb-true, leb-false}
-use Rattle.wire.specs.Bytes.{be, beAt}
-use Rattle.layout.specs.Kind.{Kind, width, ranged, quantity}
+use Rattle.wire.specs.Bytes.{beAt}
+use Rattle.layout.specs.Kind.{Kind, width}
 use Rattle.layout.specs.Layout.{Group, size, ranges}
 use Rattle.layout.specs.Group.{shown, shownPlace, next, place, fit, quantities, groupRanges}
 

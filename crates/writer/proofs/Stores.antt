@@ -3,21 +3,20 @@
 use Prim.Native.Nat.{ℕ, _+_, _-_, _^_, _<_, _≤_}
 use mathlib.Core.Path.{_≡_, refl, ap, sym, _∙_}
 use mathlib.Core.Bool.{Bool, true, false}
-use mathlib.Core.List.{List, [], _∷_, _++_, append-nil}
+use mathlib.Core.List.{List, [], _∷_, append-nil}
 use native.Mathlib.Omega.{arith}
 use borrow.Author.Tests.{leb-true, leb-false}
 use lib.Dec.{leb}
 use lib.IntN.{ℤ}
 use lib.Signed.{mag}
-use lib.ListN.{length, take, drop, length-append, length-drop, take-append-drop, drop-of-length-le}
-use lib.Seq.{drop-drop, length-take-le}
+use lib.ListN.{length, drop, take-append-drop, drop-of-length-le}
+use lib.Seq.{drop-drop}
 use mir.Syntax.{w64}
 use mir.Val.{toZ, ofZ}
 use mir.Facts.{toZ-ofZ}
 use Rattle.wire.specs.Bytes.{digits, splice, placed}
-use Rattle.wire.proofs.Digits.{length-digits}
 use Rattle.wire.proofs.Place.{placed-fits, placed-short, length-splice, splice-more}
-use Rattle.layout.specs.Kind.{Kind, Form, unsigned, signed, written, form, bytes, width, characters}
+use Rattle.layout.specs.Kind.{Kind, Form, unsigned, signed, written, form, width, characters}
 use Rattle.layout.specs.Layout.{size, textsBehind}
 use Rattle.writer.specs.Body.{numbersBehind, fieldBytes, encode, textWidth, textSize}
 use Rattle.writer.proofs.Round.{length-field, length-encode, length-behind}

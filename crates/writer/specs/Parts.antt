@@ -6,7 +6,7 @@ use mathlib.Core.List.{List, [], _∷_}
 use lib.IntN.{ℤ, pos}
 use Rattle.wire.specs.Answer.{Answer}
 use Rattle.layout.specs.Kind.{Kind}
-use Rattle.layout.specs.Layout.{Message, snapshot, Group, commonPart, fields, typeNumber, size}
+use Rattle.layout.specs.Layout.{snapshot, Group, commonPart, fields, typeNumber, size}
 use Rattle.layout.specs.Group.{noGroup, group, groupRanges, verdict}
 use Rattle.record.specs.Record.{Reading, known, unknown}
 use Rattle.record.specs.Paper.{paperRecord, commonValues}

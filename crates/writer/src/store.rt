@@ -4,6 +4,7 @@ ghost use mathlib.Core.List.{_++_};
 ghost use Prim.Native.Nat.{_+_, _≤_};
 ghost use lib.ListN.{length};
 ghost use Rattle.wire.specs.Bytes.{splice};
+ghost use Rattle.frame.specs.Framing.{bodyLimit};
 ghost use Rattle.layout.specs.Layout as of;
 ghost use Rattle.record.specs.Paper.{paperRecord};
 ghost use Rattle.writer.specs.Body.{textSize};
@@ -22,7 +23,7 @@ pub(crate) fn store(
     groups: &[u8],
     out: &mut [u8],
 )
-    requires { ⌜ (size ≡ of.size (layoutIn (paperRecord «record»))) × ((length (now texts) ≡ textSize (layoutIn (paperRecord «record»))) × ((size + length (now groups) ≤ 16384) × (12 + (size + length (now groups)) ≤ length (now out)))) ⌝ }
+    requires { ⌜ (size ≡ of.size (layoutIn (paperRecord «record»))) × ((length (now texts) ≡ textSize (layoutIn (paperRecord «record»))) × ((size + length (now groups) ≤ bodyLimit) × (12 + (size + length (now groups)) ≤ length (now out)))) ⌝ }
     ensures { λ _. ⌜ now (out .exit) ≡ splice (now (out .entry)) 0 (frameOf kind (fieldsOf «record» (now (texts .entry)) ++ now (groups .entry))) ⌝ }
 {
     let len = size + groups.len();

@@ -1,4 +1,3 @@
-use borrow.Author.Needs.{needs}
 use denote.Ref.{now}
 use lib.ListN.{length}
 use mathlib.Core.Path.{refl, ap, sym, _∙_}

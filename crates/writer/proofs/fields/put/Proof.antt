@@ -1,8 +1,6 @@
 use borrow.Author.Needs.{needs}
-use Prim.Native.Nat.{_≤_}
 use denote.Ref.{now}
 use lib.ListN.{length}
-use lib.Seq.{length-take-le}
 use mathlib.Core.Path.{ap, _∙_}
 use native.Mathlib.Omega.{arith}
 use Rattle.wire.specs.Bytes.{splice}
@@ -12,81 +10,135 @@ use Rattle.record.specs.declared.Record.the-variants.{ChannelHeartbeat, Resend,
 use Rattle.writer.specs.Body.{encode, textSize}
 use Rattle.writer.specs.Parts.{fieldsOf}
 use Rattle.writer.proofs.Judging.{moved}
-use Rattle.writer.proofs.Output.{nothing-stored, part-stored, same-stored, volume-fields}
+use Rattle.writer.proofs.Output.{room, asked, nothing-stored, part-stored, same-stored, volume-fields}
 use Rattle.writer.proofs.fields.put.Statement.{statement}
 use Rattle.writer.proofs.fields.put.Tie as tie
 
 part-put-end : tie.Need-part-put-end
 unfolding size
-part-put-end c = let h : 12 ≤ length (now (c .before .before .before .before .before .args .out)) = rw (c .before .«record» .given .1) at (c .before .before .before .before .before .pre .1) in omega arith
+part-put-end c =
+    let s = c .before in
+    let h = room (ChannelHeartbeat (s .«record» .given .0 .0)) (now (s .before .before .before .before .args .out)) (s .«record» .given .1) (s .before .before .before .before .pre .1) in
+    omega arith
 
 put-requires : tie.Need-put-requires
 unfolding size textSize
-put-requires c κs = let h : 12 ≤ length (now (c .before .before .before .before .before .before .args .out)) = rw (c .before .before .«record» .given .1) at (c .before .before .before .before .before .before .pre .1) in (rw (c .before .before .«record» .given .1) at (c .before .before .before .before .before .before .pre .0), length-take-le 12 (now (c .before .before .before .before .before .before .args .out)) h)
+put-requires c κs =
+    let s = c .before .before in
+    let a = s .before .before .before .before .args in
+    asked (ChannelHeartbeat (s .«record» .given .0 .0)) (now (a .texts)) (now (a .out)) (s .«record» .given .1) (s .before .before .before .before .pre .0) (s .before .before .before .before .pre .1)
 
 part-put-end-2 : tie.Need-part-put-end-2
 unfolding size
-part-put-end-2 c = let h : 44 ≤ length (now (c .before .before .before .before .before .args .out)) = rw (c .before .record2 .given .1) at (c .before .before .before .before .before .pre .1) in omega arith
+part-put-end-2 c =
+    let s = c .before in
+    let h = room (Resend (s .record2 .given .0 .0)) (now (s .before .before .before .before .args .out)) (s .record2 .given .1) (s .before .before .before .before .pre .1) in
+    omega arith
 
 put-requires-2 : tie.Need-put-requires-2
 unfolding size textSize
-put-requires-2 c κs = let h : 44 ≤ length (now (c .before .before .before .before .before .before .args .out)) = rw (c .before .before .record2 .given .1) at (c .before .before .before .before .before .before .pre .1) in (rw (c .before .before .record2 .given .1) at (c .before .before .before .before .before .before .pre .0), length-take-le 44 (now (c .before .before .before .before .before .before .args .out)) h)
+put-requires-2 c κs =
+    let s = c .before .before in
+    let a = s .before .before .before .before .args in
+    asked (Resend (s .record2 .given .0 .0)) (now (a .texts)) (now (a .out)) (s .record2 .given .1) (s .before .before .before .before .pre .0) (s .before .before .before .before .pre .1)
 
 part-put-end-3 : tie.Need-part-put-end-3
 unfolding size
-part-put-end-3 c = let h : 14 ≤ length (now (c .before .before .before .before .before .args .out)) = rw (c .before .record3 .given .1) at (c .before .before .before .before .before .pre .1) in omega arith
+part-put-end-3 c =
+    let s = c .before in
+    let h = room (Statistics (s .record3 .given .0 .0)) (now (s .before .before .before .before .args .out)) (s .record3 .given .1) (s .before .before .before .before .pre .1) in
+    omega arith
 
 put-requires-3 : tie.Need-put-requires-3
 unfolding size textSize
-put-requires-3 c κs = let h : 14 ≤ length (now (c .before .before .before .before .before .before .args .out)) = rw (c .before .before .record3 .given .1) at (c .before .before .before .before .before .before .pre .1) in (rw (c .before .before .record3 .given .1) at (c .before .before .before .before .before .before .pre .0), length-take-le 14 (now (c .before .before .before .before .before .before .args .out)) h)
+put-requires-3 c κs =
+    let s = c .before .before in
+    let a = s .before .before .before .before .args in
+    asked (Statistics (s .record3 .given .0 .0)) (now (a .texts)) (now (a .out)) (s .record3 .given .1) (s .before .before .before .before .pre .0) (s .before .before .before .before .pre .1)
 
 part-put-end-4 : tie.Need-part-put-end-4
 unfolding size
-part-put-end-4 c = let h : 34 ≤ length (now (c .before .before .before .before .before .args .out)) = rw (c .before .record4 .given .1) at (c .before .before .before .before .before .pre .1) in omega arith
+part-put-end-4 c =
+    let s = c .before in
+    let h = room (SecurityStatus (s .record4 .given .0 .0)) (now (s .before .before .before .before .args .out)) (s .record4 .given .1) (s .before .before .before .before .pre .1) in
+    omega arith
 
 put-requires-4 : tie.Need-put-requires-4
 unfolding size textSize
-put-requires-4 c κs = let h : 34 ≤ length (now (c .before .before .before .before .before .before .args .out)) = rw (c .before .before .record4 .given .1) at (c .before .before .before .before .before .before .pre .1) in (rw (c .before .before .record4 .given .1) at (c .before .before .before .before .before .before .pre .0), length-take-le 34 (now (c .before .before .before .before .before .before .args .out)) h)
+put-requires-4 c κs =
+    let s = c .before .before in
+    let a = s .before .before .before .before .args in
+    asked (SecurityStatus (s .record4 .given .0 .0)) (now (a .texts)) (now (a .out)) (s .record4 .given .1) (s .before .before .before .before .pre .0) (s .before .before .before .before .pre .1)
 
 part-put-end-5 : tie.Need-part-put-end-5
 unfolding size
-part-put-end-5 c = let h : 69 ≤ length (now (c .before .before .before .before .before .args .out)) = rw (c .before .record5 .given .1) at (c .before .before .before .before .before .pre .1) in omega arith
+part-put-end-5 c =
+    let s = c .before in
+    let h = room (Snapshot (s .record5 .given .0 .0)) (now (s .before .before .before .before .args .out)) (s .record5 .given .1) (s .before .before .before .before .pre .1) in
+    omega arith
 
 put-requires-5 : tie.Need-put-requires-5
 unfolding size textSize
-put-requires-5 c κs = let h : 69 ≤ length (now (c .before .before .before .before .before .before .args .out)) = rw (c .before .before .record5 .given .1) at (c .before .before .before .before .before .before .pre .1) in (rw (c .before .before .record5 .given .1) at (c .before .before .before .before .before .before .pre .0), length-take-le 69 (now (c .before .before .before .before .before .before .args .out)) h)
+put-requires-5 c κs =
+    let s = c .before .before in
+    let a = s .before .before .before .before .args in
+    asked (Snapshot (s .record5 .given .0 .0)) (now (a .texts)) (now (a .out)) (s .record5 .given .1) (s .before .before .before .before .pre .0) (s .before .before .before .before .pre .1)
 
 part-put-end-6 : tie.Need-part-put-end-6
 unfolding size
-part-put-end-6 c = let h : 69 ≤ length (now (c .before .before .before .before .before .args .out)) = rw (c .before .record6 .given .1) at (c .before .before .before .before .before .pre .1) in omega arith
+part-put-end-6 c =
+    let s = c .before in
+    let h = room (Index (s .record6 .given .0 .0)) (now (s .before .before .before .before .args .out)) (s .record6 .given .1) (s .before .before .before .before .pre .1) in
+    omega arith
 
 put-requires-6 : tie.Need-put-requires-6
 unfolding size textSize
-put-requires-6 c κs = let h : 69 ≤ length (now (c .before .before .before .before .before .before .args .out)) = rw (c .before .before .record6 .given .1) at (c .before .before .before .before .before .before .pre .1) in (rw (c .before .before .record6 .given .1) at (c .before .before .before .before .before .before .pre .0), length-take-le 69 (now (c .before .before .before .before .before .before .args .out)) h)
+put-requires-6 c κs =
+    let s = c .before .before in
+    let a = s .before .before .before .before .args in
+    asked (Index (s .record6 .given .0 .0)) (now (a .texts)) (now (a .out)) (s .record6 .given .1) (s .before .before .before .before .pre .0) (s .before .before .before .before .pre .1)
 
 part-put-end-7 : tie.Need-part-put-end-7
 unfolding size
-part-put-end-7 c = let h : 69 ≤ length (now (c .before .before .before .before .before .args .out)) = rw (c .before .record7 .given .1) at (c .before .before .before .before .before .pre .1) in omega arith
+part-put-end-7 c =
+    let s = c .before in
+    let h = room (VolumeIndex (s .record7 .given .0 .0)) (now (s .before .before .before .before .args .out)) (s .record7 .given .1) (s .before .before .before .before .pre .1) in
+    omega arith
 
 put-requires-7 : tie.Need-put-requires-7
 unfolding size textSize
-put-requires-7 c κs = let h : 69 ≤ length (now (c .before .before .before .before .before .before .args .out)) = rw (c .before .before .record7 .given .1) at (c .before .before .before .before .before .before .pre .1) in (rw (c .before .before .record7 .given .1) at (c .before .before .before .before .before .before .pre .0), length-take-le 69 (now (c .before .before .before .before .before .before .args .out)) h)
+put-requires-7 c κs =
+    let s = c .before .before in
+    let a = s .before .before .before .before .args in
+    asked (VolumeIndex (s .record7 .given .0 .0)) (now (a .texts)) (now (a .out)) (s .record7 .given .1) (s .before .before .before .before .pre .0) (s .before .before .before .before .pre .1)
 
 part-put-end-8 : tie.Need-part-put-end-8
 unfolding size
-part-put-end-8 c = let h : 51 ≤ length (now (c .before .before .before .before .before .args .out)) = rw (c .before .record8 .given .1) at (c .before .before .before .before .before .pre .1) in omega arith
+part-put-end-8 c =
+    let s = c .before in
+    let h = room (Order (s .record8 .given .0 .0)) (now (s .before .before .before .before .args .out)) (s .record8 .given .1) (s .before .before .before .before .pre .1) in
+    omega arith
 
 put-requires-8 : tie.Need-put-requires-8
 unfolding size textSize
-put-requires-8 c κs = let h : 51 ≤ length (now (c .before .before .before .before .before .before .args .out)) = rw (c .before .before .record8 .given .1) at (c .before .before .before .before .before .before .pre .1) in (rw (c .before .before .record8 .given .1) at (c .before .before .before .before .before .before .pre .0), length-take-le 51 (now (c .before .before .before .before .before .before .args .out)) h)
+put-requires-8 c κs =
+    let s = c .before .before in
+    let a = s .before .before .before .before .args in
+    asked (Order (s .record8 .given .0 .0)) (now (a .texts)) (now (a .out)) (s .record8 .given .1) (s .before .before .before .before .pre .0) (s .before .before .before .before .pre .1)
 
 part-put-end-9 : tie.Need-part-put-end-9
 unfolding size
-part-put-end-9 c = let h : 66 ≤ length (now (c .before .before .before .before .before .args .out)) = rw (c .before .record9 .given .1) at (c .before .before .before .before .before .pre .1) in omega arith
+part-put-end-9 c =
+    let s = c .before in
+    let h = room (Trade (s .record9 .given .0 .0)) (now (s .before .before .before .before .args .out)) (s .record9 .given .1) (s .before .before .before .before .pre .1) in
+    omega arith
 
 put-requires-9 : tie.Need-put-requires-9
 unfolding size textSize
-put-requires-9 c κs = let h : 66 ≤ length (now (c .before .before .before .before .before .before .args .out)) = rw (c .before .before .record9 .given .1) at (c .before .before .before .before .before .before .pre .1) in (rw (c .before .before .record9 .given .1) at (c .before .before .before .before .before .before .pre .0), length-take-le 66 (now (c .before .before .before .before .before .before .args .out)) h)
+put-requires-9 c κs =
+    let s = c .before .before in
+    let a = s .before .before .before .before .args in
+    asked (Trade (s .record9 .given .0 .0)) (now (a .texts)) (now (a .out)) (s .record9 .given .1) (s .before .before .before .before .pre .0) (s .before .before .before .before .pre .1)
 
 returns : tie.Need-returns
 unfolding encode

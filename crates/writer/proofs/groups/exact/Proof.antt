@@ -1,4 +1,3 @@
-use borrow.Author.Needs.{needs}
 use denote.Ref.{now}
 use mathlib.Core.Path.{sym, _∙_}
 use Rattle.layout.specs.Paper.{meant}

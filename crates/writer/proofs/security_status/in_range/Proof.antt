@@ -1,5 +1,3 @@
-use borrow.Author.Needs.{needs}
-use mathlib.Core.Bool.{_&&_}
 use mathlib.Core.Path.{sym, _∙_}
 use Rattle.layout.specs.Kind.{time}
 use Rattle.writer.proofs.Tests.{by-bits, security-status-in}
