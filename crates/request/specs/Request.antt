@@ -9,9 +9,10 @@ use lib.ListN.{length, replicate}
 use Rattle.wire.specs.Answer.{Answer, accepted, refused, guard, andThen}
 use Rattle.wire.specs.Bytes.{splice}
 use Rattle.wire.specs.Refusal.{outputShort, noSuchChannel, malformed}
-use Rattle.layout.specs.Layout.{resend, fields, typeNumber}
+use Rattle.layout.specs.Kind.{characters, newsId, rejectText}
+use Rattle.layout.specs.Layout.{resend, typeNumber}
 use Rattle.record.specs.Record.{Reading, known}
-use Rattle.writer.specs.Body.{body, bodyLength, textSize}
+use Rattle.writer.specs.Body.{body, bodyLength}
 use Rattle.writer.specs.Write.{frameOf, frameLength}
 use Rattle.gaps.specs.declared.Run.{Run}
 use Rattle.gaps.specs.Gaps.{run}
@@ -40,14 +41,18 @@ byNumbers = 1
 abbrev pub noStatus : ℕ
 noStatus = 0
 
+abbrev pub space : ℕ
+space = 0x20
+
 -- "news id and text all spaces"
 abbrev pub spaces : List ℕ
-spaces = replicate 24 0x20
+spaces = replicate (characters newsId + characters rejectText) space
 
--- the numbers of a 390094 frame, in its layout's order
+-- the numbers of the frame's fields, in its layout's order
 abbrev pub numbersFor : ℕ → Run → List ℤ
 numbersFor k r = pos byNumbers ∷ pos k ∷ pos (r .first) ∷ pos (r .last) ∷ pos noStatus ∷ []
 
+-- the record
 abbrev pub resendOf : ℕ → Run → Reading
 resendOf k r = known resend (numbersFor k r)
 
@@ -77,6 +82,7 @@ pub data Said : Type 0 where
   written : ℕ → Said
   nothing : Said
 
+-- what goes with the numbers asked for
 abbrev pub said : Lost → Said
 said (lost r) = written requestLength
 said nothingMissing = nothing

@@ -61,7 +61,7 @@ fn ask(channel: u16, run: Run, out: &mut [u8]) -> Requested
     ensures { λ r. ⌜ paper r ≡ answerOf (fitting (length (now (out .entry))) (lost run)) ⌝ }
     ensures { λ r. ⌜ now (out .exit) ≡ outputOf (fitting (length (now (out .entry))) (lost run)) channel (now (out .entry)) ⌝ }
 {
-    let spaces = [0x20; 24];
+    let spaces = [b' '; 24];
     match writer::write(resend(channel, asked(run)), &spaces, b"", out) {
         Written::Whole(n) => Requested::Written(n),
         Written::Refused(_) => Requested::OutputShort,
