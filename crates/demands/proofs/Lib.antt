@@ -4,3 +4,4 @@ pub mod Back
 pub mod Demand2
 pub mod Demand3
 pub mod Played
+pub mod Requests

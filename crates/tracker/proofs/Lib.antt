@@ -8,5 +8,6 @@ pub mod Room
 pub mod Put
 pub mod Seated
 pub mod Judge
+pub mod FirstRun
 pub mod Unique
 pub mod Holder

@@ -2,4 +2,5 @@ pub mod Places
 pub mod Rules
 pub mod SetUp
 pub mod Arrived
+pub mod FirstRun
 pub mod Inside

@@ -5,7 +5,9 @@ ghost use Rattle.gaps.specs.Channel.{tick, heartbeat};
 ghost use Rattle.tracker.specs.Places.{channel};
 ghost use Rattle.tracker.specs.SetUp.{blankWith, setUp, paper as begun};
 ghost use Rattle.tracker.specs.Arrived.{on, arrived, saidOf, paper};
+ghost use Rattle.tracker.specs.FirstRun.{firstRun, lostOf};
 ghost use Rattle.tracker.specs.Inside.{Kept, stored};
+use gaps::Run;
 use gaps::Runs;
 
 mod places;
@@ -52,6 +54,14 @@ pub enum Verdict {
 pub struct Reply {
     pub verdict: Verdict,
     pub next: Tracker,
+}
+
+// The first run of a channel, or why there is none.
+pub enum Wanted {
+    First(Run),
+    NothingMissing,
+    NotInTracker,
+    Malformed,
 }
 
 // Where new missing numbers go: the place in the row and the first number of the run there, or full.
@@ -211,6 +221,37 @@ impl Tracker {
                     verdict: Verdict::Heard,
                     next: self,
                 }
+            }
+        }
+    }
+
+    // The first run of a channel.
+    pub fn first_run(self, channel: u16) -> Wanted
+        ensures { λ r. ⌜ lostOf r ≡ firstRun self channel ⌝ }
+    {
+        let seat = rules::seat(
+            channel,
+            self.count,
+            &self.numbers,
+            &self.highest,
+            &self.ended,
+            &self.counts,
+            &self.first,
+            &self.last,
+        );
+        match seat {
+            Seat::Malformed => Wanted::Malformed,
+            Seat::NotInTracker => Wanted::NotInTracker,
+            Seat::At(at) => {
+                let held = self.counts[at];
+                if held == 0 {
+                    return Wanted::NothingMissing;
+                }
+                let b = at * Runs::LIMIT;
+                Wanted::First(Run {
+                    first: self.first[b],
+                    last: self.last[b],
+                })
             }
         }
     }

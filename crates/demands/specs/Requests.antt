@@ -1,0 +1,43 @@
+-- Demand 2 for the request: "A request for a channel asks for the first run, or its first 200 numbers [..]: a 390094 frame with resend
+-- type 1, news id and text all spaces, status 0". What the request writes, the frame reader accepts, and the record reader gives those numbers.
+-- Assumes nothing.
+use Prim.Native.Nat.{ℕ, _^_, _<_}
+use mathlib.Core.Path.{_≡_}
+use mathlib.Core.List.{List, [], _∷_}
+use lib.IntN.{pos}
+use lib.ListN.{replicate}
+use Rattle.wire.specs.Answer.{accepted}
+use Rattle.frame.specs.Framing.{framing, headerWidth, bodyLimit}
+use Rattle.layout.specs.Layout.{resend}
+use Rattle.record.specs.Asked.{told}
+use Rattle.record.specs.Record.{known, frameReading}
+use Rattle.gaps.specs.declared.Run.{Run}
+use Rattle.tracker.specs.declared.Tracker.{Tracker}
+use Rattle.tracker.specs.FirstRun.{lost, firstRun}
+use Rattle.request.specs.Request.{asked, space, written, answering, leaving, paper}
+use Rattle.request.specs.declared.Requested.{Requested}
+
+-- a call of the request: its answer, and the output after it
+pub record Call (t : Tracker) (k : ℕ) (out : List ℕ) (a : Requested) (after : List ℕ) : Type 0 where
+  pub answers : paper a ≡ answering t k out
+  pub leaves : after ≡ leaving t k out
+
+-- bytes that begin with a frame of 390094, L 44, 56 bytes, which reads as resend type 1, channel k, the numbers of r, status 0 and spaces
+pub record Asks (k : ℕ) (r : Run) (s : List ℕ) : Type 0 where
+  pub frame : framing headerWidth bodyLimit s ≡ accepted (record { kind = 390094; len = 44; total = 56 })
+  pub fields :
+      frameReading s ≡
+      told (accepted (known resend (pos 1 ∷ pos k ∷ pos (r .first) ∷ pos (r .last) ∷ pos 0 ∷ []))) (replicate 24 space)
+
+-- the channel has a first run, n bytes are written, and they ask for that run, or its first 200 numbers
+pub record Requests (t : Tracker) (k n : ℕ) (s : List ℕ) : Type 0 where
+  pub run : Run
+  pub first : firstRun t k ≡ accepted (lost run)
+  pub bytes : n ≡ 56
+  pub asks : Asks k (asked run) s
+
+-- whatever stood in the output before, for every channel number of two bytes
+abbrev pub RequestReads : Type 0
+RequestReads =
+    (t : Tracker) (k : ℕ) (out after : List ℕ) (a : Requested) (n : ℕ) → k < 256 ^ 2 → Call t k out a after →
+    paper a ≡ accepted (written n) → Requests t k n after

@@ -1,0 +1,38 @@
+-- The first run of a channel, which a request asks for (document 01, "Tracker").
+use Prim.Native.Nat.{ℕ}
+use mathlib.Core.List.{List, [], _∷_}
+use mathlib.Core.Bool.{not}
+use lib.Dec.{ltb}
+use Rattle.wire.specs.Answer.{Answer, accepted, refused, guard}
+use Rattle.wire.specs.Refusal.{noSuchChannel, malformed}
+use Rattle.gaps.specs.declared.Run.{Run}
+use Rattle.tracker.specs.declared.Tracker.{Tracker}
+use Rattle.tracker.specs.declared.Wanted.{Wanted}
+use Rattle.tracker.specs.declared.Wanted.the-variants.{First, NothingMissing, NotInTracker, Malformed}
+use Rattle.tracker.specs.Places.{channel}
+use Rattle.tracker.specs.Rules.{wellFormed}
+use Rattle.tracker.specs.Arrived.{place}
+
+-- "the first run"; "No run: nothing missing"
+pub data Lost : Type 0 where
+  lost : Run → Lost
+  nothingMissing : Lost
+
+-- of a channel's runs
+abbrev pub foremost : List Run → Lost
+foremost [] = nothingMissing
+foremost (r ∷ l) = lost r
+
+-- "A malformed tracker, 10, comes before all others"; "Request: 7, nothing missing"
+unfoldable pub firstRun : Tracker → ℕ → Answer Lost
+firstRun t k =
+    guard (not (wellFormed t)) (refused malformed [])
+    (guard (not (ltb (place t k) (t .count))) (refused noSuchChannel [])
+    (accepted (foremost (channel t (place t k) .runs))))
+
+-- the paper's number and values for each case of the code's answer
+abbrev pub lostOf : Wanted → Answer Lost
+lostOf (First r) = accepted (lost r)
+lostOf NothingMissing = accepted nothingMissing
+lostOf NotInTracker = refused noSuchChannel []
+lostOf Malformed = refused malformed []
