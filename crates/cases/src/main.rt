@@ -1,4 +1,5 @@
-// Cases of document 01 that are run: what the writer refuses, with the output that it leaves; and a full gap table.
+// Cases of document 01 that are run: what the writer refuses, with the output that it leaves; a full gap table; requests.
+mod asking;
 mod refused;
 mod table;
 
@@ -6,5 +7,6 @@ fn main() {
     let mut lines = [0u8; 4096];
     let a = refused::cases(&mut lines, 0);
     let b = table::cases(&mut lines, a);
-    window::flush(&lines, b, 4097);
+    let c = asking::cases(&mut lines, b);
+    window::flush(&lines, c, 4097);
 }
