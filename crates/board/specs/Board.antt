@@ -8,6 +8,11 @@ use Rattle.board.specs.declared.FrameAnswer.{FrameAnswer}
 abbrev pub plain : ℕ
 plain = 0
 
+-- "a refusal returns its number"
+abbrev pub answerNumber : {A : Type 0} → Answer A → ℕ
+answerNumber (accepted x) = plain
+answerNumber (refused n vs) = n
+
 -- a frame's type and lengths; "a refusal returns its number"
 abbrev pub frameAnswer : Answer Frame → FrameAnswer
 frameAnswer (accepted f) = record { answer = plain; kind = f .kind; len = f .len; total = f .total }

@@ -4,6 +4,9 @@ ghost use Rattle.frame.specs.Framing.{framing, headerWidth, bodyLimit};
 ghost use Rattle.board.specs.Board.{frameAnswer};
 use frame::Framed;
 
+mod answers;
+mod records;
+
 // The frame that some bytes begin with: its type, the body's length and the length of the frame; zeros where it is refused.
 #[repr(C)]
 pub struct FrameAnswer {
