@@ -8,6 +8,13 @@ use Rattle.board.specs.declared.FrameAnswer.{FrameAnswer}
 abbrev pub plain : ℕ
 plain = 0
 
+-- the other answers, 100 and up
+abbrev pub noSuchEntryNumber : ℕ
+noSuchEntryNumber = 101
+
+abbrev pub noPrice : ℕ
+noPrice = 102
+
 -- "a refusal returns its number"
 abbrev pub answerNumber : {A : Type 0} → Answer A → ℕ
 answerNumber (accepted x) = plain

@@ -1,2 +1,3 @@
 pub mod Board
 pub mod Records
+pub mod Entries

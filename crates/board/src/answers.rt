@@ -5,6 +5,10 @@ use layout::Refusal;
 
 pub(crate) const PLAIN: u32 = 0;
 
+pub(crate) const NO_SUCH_ENTRY: u32 = 101;
+
+pub(crate) const NO_PRICE: u32 = 102;
+
 // The paper's number of a body's refusal.
 pub(crate) fn number(x: Refusal) -> u32
     ensures { λ r. ⌜ r ≡ refusal x ⌝ }

@@ -5,6 +5,7 @@ ghost use Rattle.board.specs.Board.{frameAnswer};
 use frame::Framed;
 
 mod answers;
+mod entries;
 mod records;
 
 // The frame that some bytes begin with: its type, the body's length and the length of the frame; zeros where it is refused.
