@@ -15,6 +15,12 @@ noSuchEntryNumber = 101
 abbrev pub noPrice : ℕ
 noPrice = 102
 
+abbrev pub lateNumber : ℕ
+lateNumber = 103
+
+abbrev pub duplicateNumber : ℕ
+duplicateNumber = 104
+
 -- "a refusal returns its number"
 abbrev pub answerNumber : {A : Type 0} → Answer A → ℕ
 answerNumber (accepted x) = plain

@@ -1,3 +1,4 @@
 pub mod Board
 pub mod Records
 pub mod Entries
+pub mod Arrivals

@@ -9,6 +9,10 @@ pub(crate) const NO_SUCH_ENTRY: u32 = 101;
 
 pub(crate) const NO_PRICE: u32 = 102;
 
+pub(crate) const LATE: u32 = 103;
+
+pub(crate) const DUPLICATE: u32 = 104;
+
 // The paper's number of a body's refusal.
 pub(crate) fn number(x: Refusal) -> u32
     ensures { λ r. ⌜ r ≡ refusal x ⌝ }

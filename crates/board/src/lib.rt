@@ -5,6 +5,7 @@ ghost use Rattle.board.specs.Board.{frameAnswer};
 use frame::Framed;
 
 mod answers;
+mod arrivals;
 mod entries;
 mod records;
 
