@@ -8,6 +8,7 @@ mod answers;
 mod arrivals;
 mod entries;
 mod records;
+mod written;
 
 // The frame that some bytes begin with: its type, the body's length and the length of the frame; zeros where it is refused.
 #[repr(C)]
