@@ -8,6 +8,24 @@ use Rattle.board.specs.declared.FrameAnswer.{FrameAnswer}
 abbrev pub plain : ℕ
 plain = 0
 
+-- the other answers, 100 and up
+abbrev pub noSuchEntryNumber : ℕ
+noSuchEntryNumber = 101
+
+abbrev pub noPrice : ℕ
+noPrice = 102
+
+abbrev pub lateNumber : ℕ
+lateNumber = 103
+
+abbrev pub duplicateNumber : ℕ
+duplicateNumber = 104
+
+-- "a refusal returns its number"
+abbrev pub answerNumber : {A : Type 0} → Answer A → ℕ
+answerNumber (accepted x) = plain
+answerNumber (refused n vs) = n
+
 -- a frame's type and lengths; "a refusal returns its number"
 abbrev pub frameAnswer : Answer Frame → FrameAnswer
 frameAnswer (accepted f) = record { answer = plain; kind = f .kind; len = f .len; total = f .total }

@@ -1,1 +1,5 @@
 pub mod Board
+pub mod Records
+pub mod Entries
+pub mod Arrivals
+pub mod Written

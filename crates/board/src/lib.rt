@@ -4,6 +4,12 @@ ghost use Rattle.frame.specs.Framing.{framing, headerWidth, bodyLimit};
 ghost use Rattle.board.specs.Board.{frameAnswer};
 use frame::Framed;
 
+mod answers;
+mod arrivals;
+mod entries;
+mod records;
+mod written;
+
 // The frame that some bytes begin with: its type, the body's length and the length of the frame; zeros where it is refused.
 #[repr(C)]
 pub struct FrameAnswer {

@@ -23,7 +23,7 @@ use Rattle.layout.specs.Group.{fit, groupRanges, judged}
 use Rattle.layout.specs.Paper as layout-paper
 use Rattle.layout.specs.declared.group.Verdict.{Verdict}
 use Rattle.record.specs.Asked.{Told, told, filled}
-use Rattle.record.specs.Record.{Reading, known, readAs, reading, frameReading}
+use Rattle.record.specs.Record.{Reading, numbersAs, readAs, reading, frameReading}
 use Rattle.record.specs.Paper.{paperAnswer}
 use Rattle.record.specs.declared.Answer as code-answer
 
@@ -40,10 +40,10 @@ pub found-by : {v w : Verdict} {a : Answer Unit} → v ≡ w → layout-paper.pa
 found-by e f = sym f ∙ ap layout-paper.paper e
 
 -- an accepted body: its numbers and its texts
-pub tell : (m : Message) (s : List ℕ) → judged m s ≡ accepted tt → {vs : List ℤ} → vs ≡ values (fields m) s 0 → {t : List ℕ} → t ≡ texts (fields m) s 0 → {b : List ℕ} {n : ℕ} → b ≡ filled t → n ≡ length t → with-texts (accepted (known m vs)) b n ≡ readAs m s
+pub tell : (m : Message) (s : List ℕ) → judged m s ≡ accepted tt → {r : Reading} → r ≡ numbersAs m s → {t : List ℕ} → t ≡ texts (fields m) s 0 → {b : List ℕ} {n : ℕ} → b ≡ filled t → n ≡ length t → with-texts (accepted r) b n ≡ readAs m s
 unfolding readAs
 tell m s e v t b n =
-    rw e (λ i. record { answer = accepted (known m (v i)); texts = (b ∙ ap filled t) i; used = (n ∙ ap length t) i })
+    rw e (λ i. record { answer = accepted (v i); texts = (b ∙ ap filled t) i; used = (n ∙ ap length t) i })
 
 -- a refused one
 pub refuse : (m : Message) (s : List ℕ) {n : ℕ} {vs : List ℕ} → judged m s ≡ refused n vs → told (refused n vs) [] ≡ readAs m s

@@ -19,9 +19,13 @@ pub data Reading : Type 0 where
   known : Message → List ℤ → Reading
   unknown : ℕ → Reading
 
+-- some bytes as a listed type, not judged; bytes that are not there count as none
+abbrev pub numbersAs : Message → List ℕ → Reading
+numbersAs m s = known m (values (fields m) s 0)
+
 -- the body of a listed type
 unfoldable pub readAs : Message → List ℕ → Told Reading
-readAs m s = onceAccepted (judged m s) (known m (values (fields m) s 0)) (texts (fields m) s 0)
+readAs m s = onceAccepted (judged m s) (numbersAs m s) (texts (fields m) s 0)
 
 -- "An unlisted type is not refused: it is answered as unknown, with type and body"
 abbrev pub readListed : Listed → ℕ → List ℕ → Told Reading

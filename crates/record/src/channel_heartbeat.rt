@@ -4,8 +4,9 @@ ghost use Rattle.layout.specs.Layout.{fields, ranges};
 ghost use Rattle.layout.specs.Layout as of;
 ghost use Rattle.layout.specs.Group.{judged};
 ghost use Rattle.layout.specs.Paper as layout_paper;
-ghost use Rattle.record.specs.Paper.{paper};
-ghost use Rattle.record.specs.Record.{readAs};
+ghost use Rattle.record.specs.Paper.{paper, paperRecord};
+ghost use Rattle.record.specs.Record.{numbersAs, readAs};
+ghost use Rattle.record.specs.declared.Record.the-variants as is;
 use crate::Answer;
 use crate::Reading;
 use crate::Record;
@@ -16,6 +17,7 @@ use layout::Verdict;
 use layout::natural;
 use layout::yes_no;
 
+#[repr(C)]
 pub struct ChannelHeartbeat {
     pub channel: u16,
     pub last_number: i64,
@@ -39,21 +41,25 @@ pub(crate) fn judge(body: &[u8]) -> Verdict
     Verdict::Accepted.also(in_range(body))
 }
 
+// The numbers of some bytes as a channel heartbeat's, not judged.
+pub fn channel_heartbeat_of(body: &[u8]) -> ChannelHeartbeat
+    ensures { λ r. ⌜ paperRecord (is.ChannelHeartbeat r) ≡ numbersAs of.channelHeartbeat (now (body .entry)) ⌝ }
+{
+    ChannelHeartbeat {
+        channel: wire::be2(body, 0),
+        last_number: wire::i64_at(body, 2),
+        end: wire::be2(body, 10),
+    }
+}
+
 pub(crate) fn read(body: &[u8]) -> Reading
     ensures { λ r. ⌜ paper r ≡ readAs of.channelHeartbeat (now (body .entry)) ⌝ }
 {
     match judge(body) {
-        Verdict::Accepted => {
-            let record = ChannelHeartbeat {
-                channel: wire::be2(body, 0),
-                last_number: wire::i64_at(body, 2),
-                end: wire::be2(body, 10),
-            };
-            Reading {
-                answer: Answer::Read(Record::ChannelHeartbeat(record)),
-                texts: no_texts(),
-            }
-        }
+        Verdict::Accepted => Reading {
+            answer: Answer::Read(Record::ChannelHeartbeat(channel_heartbeat_of(body))),
+            texts: no_texts(),
+        },
         Verdict::Refused(x) => refused(x),
     }
 }

@@ -9,6 +9,7 @@ use layout::price;
 use layout::quantity;
 use layout::time;
 
+#[repr(C)]
 pub struct Common {
     pub time: i64,
     pub channel: u16,

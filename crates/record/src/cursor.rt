@@ -15,6 +15,7 @@ use crate::entry::groups;
 use layout::Verdict;
 
 // The place of the next entry, and how many are left.
+#[repr(C)]
 pub struct Cursor {
     pub place: usize,
     pub left: u32,

@@ -3,8 +3,9 @@ ghost use mathlib.Core.Path.{_≡_};
 ghost use Rattle.layout.specs.Layout as of;
 ghost use Rattle.layout.specs.Group.{judged};
 ghost use Rattle.layout.specs.Paper as layout_paper;
-ghost use Rattle.record.specs.Paper.{paper};
-ghost use Rattle.record.specs.Record.{readAs};
+ghost use Rattle.record.specs.Paper.{paper, paperRecord};
+ghost use Rattle.record.specs.Record.{numbersAs, readAs};
+ghost use Rattle.record.specs.declared.Record.the-variants as is;
 use crate::Answer;
 use crate::Reading;
 use crate::Record;
@@ -17,6 +18,7 @@ use layout::Groups;
 use layout::Refusal;
 use layout::Verdict;
 
+#[repr(C)]
 pub struct Index {
     pub common: Common,
     pub count: u32,
@@ -32,20 +34,24 @@ pub(crate) fn judge(body: &[u8]) -> Verdict
     layout::judge(Groups::IndexEntries, body, 69, wire::be4(body, 65)).also(common_in(body))
 }
 
+// The numbers of some bytes as an index's, not judged.
+pub fn index_of(body: &[u8]) -> Index
+    ensures { λ r. ⌜ paperRecord (is.Index r) ≡ numbersAs of.index (now (body .entry)) ⌝ }
+{
+    Index {
+        common: common_of(body),
+        count: wire::be4(body, 65),
+    }
+}
+
 pub(crate) fn read(body: &[u8]) -> Reading
     ensures { λ r. ⌜ paper r ≡ readAs of.index (now (body .entry)) ⌝ }
 {
     match judge(body) {
-        Verdict::Accepted => {
-            let record = Index {
-                common: common_of(body),
-                count: wire::be4(body, 65),
-            };
-            Reading {
-                answer: Answer::Read(Record::Index(record)),
-                texts: gather(body, 10, 23, 0, 0),
-            }
-        }
+        Verdict::Accepted => Reading {
+            answer: Answer::Read(Record::Index(index_of(body))),
+            texts: gather(body, 10, 23, 0, 0),
+        },
         Verdict::Refused(x) => refused(x),
     }
 }

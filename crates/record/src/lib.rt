@@ -28,6 +28,7 @@ mod trade;
 mod volume_index;
 
 pub use channel_heartbeat::ChannelHeartbeat;
+pub use channel_heartbeat::channel_heartbeat_of;
 pub use common::Common;
 pub use cursor::Cursor;
 pub use cursor::Step;
@@ -45,22 +46,30 @@ pub use group::GroupReading;
 pub use group::group_of;
 pub use group::groups_of;
 pub use index::Index;
+pub use index::index_of;
 pub use layout::Refusal;
 use layout::Verdict;
 pub use named::group_text_of;
 pub use named::text_of;
 pub use order::Order;
+pub use order::order_of;
 pub use resend::Resend;
+pub use resend::resend_of;
 pub use security_status::SecurityStatus;
 pub use security_status::Switch;
+pub use security_status::security_status_of;
 pub use snapshot::Snapshot;
+pub use snapshot::snapshot_of;
 pub use statistics::Statistics;
 pub use statistics::Stream;
+pub use statistics::statistics_of;
 pub use texts::Text;
 pub use texts::Texts;
 use texts::no_texts;
 pub use trade::Trade;
+pub use trade::trade_of;
 pub use volume_index::VolumeIndex;
+pub use volume_index::volume_index_of;
 
 pub enum Record {
     Heartbeat,

@@ -4,8 +4,9 @@ ghost use Rattle.layout.specs.Layout.{fields, ranges};
 ghost use Rattle.layout.specs.Layout as of;
 ghost use Rattle.layout.specs.Group.{judged};
 ghost use Rattle.layout.specs.Paper as layout_paper;
-ghost use Rattle.record.specs.Paper.{paper};
-ghost use Rattle.record.specs.Record.{readAs};
+ghost use Rattle.record.specs.Paper.{paper, paperRecord};
+ghost use Rattle.record.specs.Record.{numbersAs, readAs};
+ghost use Rattle.record.specs.declared.Record.the-variants as is;
 use crate::Answer;
 use crate::Reading;
 use crate::Record;
@@ -20,6 +21,7 @@ use layout::quantity;
 use layout::side;
 use layout::time;
 
+#[repr(C)]
 pub struct Order {
     pub channel: u16,
     pub number: i64,
@@ -51,25 +53,29 @@ pub(crate) fn judge(body: &[u8]) -> Verdict
     Verdict::Accepted.also(in_range(body))
 }
 
+// The numbers of some bytes as an order's, not judged.
+pub fn order_of(body: &[u8]) -> Order
+    ensures { λ r. ⌜ paperRecord (is.Order r) ≡ numbersAs of.order (now (body .entry)) ⌝ }
+{
+    Order {
+        channel: wire::be2(body, 0),
+        number: wire::i64_at(body, 2),
+        order_price: wire::i64_at(body, 25),
+        quantity: wire::i64_at(body, 33),
+        side: wire::be1(body, 41),
+        time: wire::i64_at(body, 42),
+        order_type: wire::be1(body, 50),
+    }
+}
+
 pub(crate) fn read(body: &[u8]) -> Reading
     ensures { λ r. ⌜ paper r ≡ readAs of.order (now (body .entry)) ⌝ }
 {
     match judge(body) {
-        Verdict::Accepted => {
-            let record = Order {
-                channel: wire::be2(body, 0),
-                number: wire::i64_at(body, 2),
-                order_price: wire::i64_at(body, 25),
-                quantity: wire::i64_at(body, 33),
-                side: wire::be1(body, 41),
-                time: wire::i64_at(body, 42),
-                order_type: wire::be1(body, 50),
-            };
-            Reading {
-                answer: Answer::Read(Record::Order(record)),
-                texts: gather(body, 10, 15, 0, 0),
-            }
-        }
+        Verdict::Accepted => Reading {
+            answer: Answer::Read(Record::Order(order_of(body))),
+            texts: gather(body, 10, 15, 0, 0),
+        },
         Verdict::Refused(x) => refused(x),
     }
 }

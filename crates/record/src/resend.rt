@@ -4,8 +4,9 @@ ghost use Rattle.layout.specs.Layout.{fields, ranges};
 ghost use Rattle.layout.specs.Layout as of;
 ghost use Rattle.layout.specs.Group.{judged};
 ghost use Rattle.layout.specs.Paper as layout_paper;
-ghost use Rattle.record.specs.Paper.{paper};
-ghost use Rattle.record.specs.Record.{readAs};
+ghost use Rattle.record.specs.Paper.{paper, paperRecord};
+ghost use Rattle.record.specs.Record.{numbersAs, readAs};
+ghost use Rattle.record.specs.declared.Record.the-variants as is;
 use crate::Answer;
 use crate::Reading;
 use crate::Record;
@@ -17,6 +18,7 @@ use layout::natural;
 use layout::resend_type;
 use layout::status;
 
+#[repr(C)]
 pub struct Resend {
     pub resend_type: u8,
     pub channel: u16,
@@ -44,23 +46,27 @@ pub(crate) fn judge(body: &[u8]) -> Verdict
     Verdict::Accepted.also(in_range(body))
 }
 
+// The numbers of some bytes as a resend's, not judged.
+pub fn resend_of(body: &[u8]) -> Resend
+    ensures { λ r. ⌜ paperRecord (is.Resend r) ≡ numbersAs of.resend (now (body .entry)) ⌝ }
+{
+    Resend {
+        resend_type: wire::be1(body, 0),
+        channel: wire::be2(body, 1),
+        first_number: wire::i64_at(body, 3),
+        last_number: wire::i64_at(body, 11),
+        status: wire::be1(body, 27),
+    }
+}
+
 pub(crate) fn read(body: &[u8]) -> Reading
     ensures { λ r. ⌜ paper r ≡ readAs of.resend (now (body .entry)) ⌝ }
 {
     match judge(body) {
-        Verdict::Accepted => {
-            let record = Resend {
-                resend_type: wire::be1(body, 0),
-                channel: wire::be2(body, 1),
-                first_number: wire::i64_at(body, 3),
-                last_number: wire::i64_at(body, 11),
-                status: wire::be1(body, 27),
-            };
-            Reading {
-                answer: Answer::Read(Record::Resend(record)),
-                texts: gather(body, 19, 8, 28, 16),
-            }
-        }
+        Verdict::Accepted => Reading {
+            answer: Answer::Read(Record::Resend(resend_of(body))),
+            texts: gather(body, 19, 8, 28, 16),
+        },
         Verdict::Refused(x) => refused(x),
     }
 }

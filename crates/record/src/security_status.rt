@@ -4,8 +4,9 @@ ghost use Rattle.layout.specs.Layout.{fields, ranges};
 ghost use Rattle.layout.specs.Layout as of;
 ghost use Rattle.layout.specs.Group.{judged};
 ghost use Rattle.layout.specs.Paper as layout_paper;
-ghost use Rattle.record.specs.Paper.{paper, paperGroup};
-ghost use Rattle.record.specs.Record.{groupAs, readAs};
+ghost use Rattle.record.specs.Paper.{paper, paperRecord, paperGroup};
+ghost use Rattle.record.specs.Record.{groupAs, numbersAs, readAs};
+ghost use Rattle.record.specs.declared.Record.the-variants as is;
 ghost use Rattle.wire.specs.Answer.{accepted};
 use crate::Answer;
 use crate::Reading;
@@ -21,6 +22,7 @@ use layout::Refusal;
 use layout::Verdict;
 use layout::time;
 
+#[repr(C)]
 pub struct SecurityStatus {
     pub time: i64,
     pub channel: u16,
@@ -50,21 +52,25 @@ pub(crate) fn judge(body: &[u8]) -> Verdict
     layout::judge(Groups::Switches, body, 34, wire::be4(body, 30)).also(in_range(body))
 }
 
+// The numbers of some bytes as a security status's, not judged.
+pub fn security_status_of(body: &[u8]) -> SecurityStatus
+    ensures { λ r. ⌜ paperRecord (is.SecurityStatus r) ≡ numbersAs of.securityStatus (now (body .entry)) ⌝ }
+{
+    SecurityStatus {
+        time: wire::i64_at(body, 0),
+        channel: wire::be2(body, 8),
+        count: wire::be4(body, 30),
+    }
+}
+
 pub(crate) fn read(body: &[u8]) -> Reading
     ensures { λ r. ⌜ paper r ≡ readAs of.securityStatus (now (body .entry)) ⌝ }
 {
     match judge(body) {
-        Verdict::Accepted => {
-            let record = SecurityStatus {
-                time: wire::i64_at(body, 0),
-                channel: wire::be2(body, 8),
-                count: wire::be4(body, 30),
-            };
-            Reading {
-                answer: Answer::Read(Record::SecurityStatus(record)),
-                texts: gather(body, 10, 20, 0, 0),
-            }
-        }
+        Verdict::Accepted => Reading {
+            answer: Answer::Read(Record::SecurityStatus(security_status_of(body))),
+            texts: gather(body, 10, 20, 0, 0),
+        },
         Verdict::Refused(x) => refused(x),
     }
 }

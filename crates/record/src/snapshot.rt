@@ -3,8 +3,9 @@ ghost use mathlib.Core.Path.{_≡_};
 ghost use Rattle.layout.specs.Layout as of;
 ghost use Rattle.layout.specs.Group.{judged};
 ghost use Rattle.layout.specs.Paper as layout_paper;
-ghost use Rattle.record.specs.Paper.{paper};
-ghost use Rattle.record.specs.Record.{readAs};
+ghost use Rattle.record.specs.Paper.{paper, paperRecord};
+ghost use Rattle.record.specs.Record.{numbersAs, readAs};
+ghost use Rattle.record.specs.declared.Record.the-variants as is;
 use crate::Answer;
 use crate::Reading;
 use crate::Record;
@@ -17,6 +18,7 @@ use layout::Groups;
 use layout::Refusal;
 use layout::Verdict;
 
+#[repr(C)]
 pub struct Snapshot {
     pub common: Common,
     pub count: u32,
@@ -32,20 +34,24 @@ pub(crate) fn judge(body: &[u8]) -> Verdict
     layout::judge(Groups::SnapshotEntries, body, 69, wire::be4(body, 65)).also(common_in(body))
 }
 
+// The numbers of some bytes as a snapshot's, not judged.
+pub fn snapshot_of(body: &[u8]) -> Snapshot
+    ensures { λ r. ⌜ paperRecord (is.Snapshot r) ≡ numbersAs of.snapshot (now (body .entry)) ⌝ }
+{
+    Snapshot {
+        common: common_of(body),
+        count: wire::be4(body, 65),
+    }
+}
+
 pub(crate) fn read(body: &[u8]) -> Reading
     ensures { λ r. ⌜ paper r ≡ readAs of.snapshot (now (body .entry)) ⌝ }
 {
     match judge(body) {
-        Verdict::Accepted => {
-            let record = Snapshot {
-                common: common_of(body),
-                count: wire::be4(body, 65),
-            };
-            Reading {
-                answer: Answer::Read(Record::Snapshot(record)),
-                texts: gather(body, 10, 23, 0, 0),
-            }
-        }
+        Verdict::Accepted => Reading {
+            answer: Answer::Read(Record::Snapshot(snapshot_of(body))),
+            texts: gather(body, 10, 23, 0, 0),
+        },
         Verdict::Refused(x) => refused(x),
     }
 }

@@ -4,8 +4,9 @@ ghost use Rattle.layout.specs.Layout.{fields, ranges};
 ghost use Rattle.layout.specs.Layout as of;
 ghost use Rattle.layout.specs.Group.{judged};
 ghost use Rattle.layout.specs.Paper as layout_paper;
-ghost use Rattle.record.specs.Paper.{paper, paperGroup};
-ghost use Rattle.record.specs.Record.{groupAs, readAs};
+ghost use Rattle.record.specs.Paper.{paper, paperRecord, paperGroup};
+ghost use Rattle.record.specs.Record.{groupAs, numbersAs, readAs};
+ghost use Rattle.record.specs.declared.Record.the-variants as is;
 ghost use Rattle.wire.specs.Answer.{accepted};
 use crate::Answer;
 use crate::Reading;
@@ -21,6 +22,7 @@ use layout::Refusal;
 use layout::Verdict;
 use layout::time;
 
+#[repr(C)]
 pub struct Statistics {
     pub time: i64,
     pub channel: u16,
@@ -49,21 +51,25 @@ pub(crate) fn judge(body: &[u8]) -> Verdict
     layout::judge(Groups::Streams, body, 14, wire::be4(body, 10)).also(in_range(body))
 }
 
+// The numbers of some bytes as a statistics's, not judged.
+pub fn statistics_of(body: &[u8]) -> Statistics
+    ensures { λ r. ⌜ paperRecord (is.Statistics r) ≡ numbersAs of.statistics (now (body .entry)) ⌝ }
+{
+    Statistics {
+        time: wire::i64_at(body, 0),
+        channel: wire::be2(body, 8),
+        count: wire::be4(body, 10),
+    }
+}
+
 pub(crate) fn read(body: &[u8]) -> Reading
     ensures { λ r. ⌜ paper r ≡ readAs of.statistics (now (body .entry)) ⌝ }
 {
     match judge(body) {
-        Verdict::Accepted => {
-            let record = Statistics {
-                time: wire::i64_at(body, 0),
-                channel: wire::be2(body, 8),
-                count: wire::be4(body, 10),
-            };
-            Reading {
-                answer: Answer::Read(Record::Statistics(record)),
-                texts: no_texts(),
-            }
-        }
+        Verdict::Accepted => Reading {
+            answer: Answer::Read(Record::Statistics(statistics_of(body))),
+            texts: no_texts(),
+        },
         Verdict::Refused(x) => refused(x),
     }
 }

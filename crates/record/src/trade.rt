@@ -4,8 +4,9 @@ ghost use Rattle.layout.specs.Layout.{fields, ranges};
 ghost use Rattle.layout.specs.Layout as of;
 ghost use Rattle.layout.specs.Group.{judged};
 ghost use Rattle.layout.specs.Paper as layout_paper;
-ghost use Rattle.record.specs.Paper.{paper};
-ghost use Rattle.record.specs.Record.{readAs};
+ghost use Rattle.record.specs.Paper.{paper, paperRecord};
+ghost use Rattle.record.specs.Record.{numbersAs, readAs};
+ghost use Rattle.record.specs.declared.Record.the-variants as is;
 use crate::Answer;
 use crate::Reading;
 use crate::Record;
@@ -20,6 +21,7 @@ use layout::price;
 use layout::quantity;
 use layout::time;
 
+#[repr(C)]
 pub struct Trade {
     pub channel: u16,
     pub number: i64,
@@ -53,26 +55,30 @@ pub(crate) fn judge(body: &[u8]) -> Verdict
     Verdict::Accepted.also(in_range(body))
 }
 
+// The numbers of some bytes as a trade's, not judged.
+pub fn trade_of(body: &[u8]) -> Trade
+    ensures { λ r. ⌜ paperRecord (is.Trade r) ≡ numbersAs of.trade (now (body .entry)) ⌝ }
+{
+    Trade {
+        channel: wire::be2(body, 0),
+        number: wire::i64_at(body, 2),
+        bid_number: wire::i64_at(body, 13),
+        offer_number: wire::i64_at(body, 21),
+        trade_price: wire::i64_at(body, 41),
+        quantity: wire::i64_at(body, 49),
+        execution: wire::be1(body, 57),
+        time: wire::i64_at(body, 58),
+    }
+}
+
 pub(crate) fn read(body: &[u8]) -> Reading
     ensures { λ r. ⌜ paper r ≡ readAs of.trade (now (body .entry)) ⌝ }
 {
     match judge(body) {
-        Verdict::Accepted => {
-            let record = Trade {
-                channel: wire::be2(body, 0),
-                number: wire::i64_at(body, 2),
-                bid_number: wire::i64_at(body, 13),
-                offer_number: wire::i64_at(body, 21),
-                trade_price: wire::i64_at(body, 41),
-                quantity: wire::i64_at(body, 49),
-                execution: wire::be1(body, 57),
-                time: wire::i64_at(body, 58),
-            };
-            Reading {
-                answer: Answer::Read(Record::Trade(record)),
-                texts: gather(body, 10, 3, 29, 12),
-            }
-        }
+        Verdict::Accepted => Reading {
+            answer: Answer::Read(Record::Trade(trade_of(body))),
+            texts: gather(body, 10, 3, 29, 12),
+        },
         Verdict::Refused(x) => refused(x),
     }
 }

@@ -3,8 +3,9 @@ ghost use mathlib.Core.Path.{_≡_};
 ghost use Rattle.layout.specs.Layout as of;
 ghost use Rattle.layout.specs.Group.{judged};
 ghost use Rattle.layout.specs.Paper as layout_paper;
-ghost use Rattle.record.specs.Paper.{paper};
-ghost use Rattle.record.specs.Record.{readAs};
+ghost use Rattle.record.specs.Paper.{paper, paperRecord};
+ghost use Rattle.record.specs.Record.{numbersAs, readAs};
+ghost use Rattle.record.specs.declared.Record.the-variants as is;
 use crate::Answer;
 use crate::Reading;
 use crate::Record;
@@ -16,6 +17,7 @@ use crate::texts::gather;
 use layout::Refusal;
 use layout::Verdict;
 
+#[repr(C)]
 pub struct VolumeIndex {
     pub common: Common,
     pub stock_number: u32,
@@ -31,20 +33,24 @@ pub(crate) fn judge(body: &[u8]) -> Verdict
     Verdict::Accepted.also(common_in(body))
 }
 
+// The numbers of some bytes as a volume index's, not judged.
+pub fn volume_index_of(body: &[u8]) -> VolumeIndex
+    ensures { λ r. ⌜ paperRecord (is.VolumeIndex r) ≡ numbersAs of.volumeIndex (now (body .entry)) ⌝ }
+{
+    VolumeIndex {
+        common: common_of(body),
+        stock_number: wire::be4(body, 65),
+    }
+}
+
 pub(crate) fn read(body: &[u8]) -> Reading
     ensures { λ r. ⌜ paper r ≡ readAs of.volumeIndex (now (body .entry)) ⌝ }
 {
     match judge(body) {
-        Verdict::Accepted => {
-            let record = VolumeIndex {
-                common: common_of(body),
-                stock_number: wire::be4(body, 65),
-            };
-            Reading {
-                answer: Answer::Read(Record::VolumeIndex(record)),
-                texts: gather(body, 10, 23, 0, 0),
-            }
-        }
+        Verdict::Accepted => Reading {
+            answer: Answer::Read(Record::VolumeIndex(volume_index_of(body))),
+            texts: gather(body, 10, 23, 0, 0),
+        },
         Verdict::Refused(x) => refused(x),
     }
 }

@@ -1,38 +1,26 @@
 use borrow.Author.Needs.{needs}
 use denote.Ref.{now}
-use lib.IntN.{pos}
-use mathlib.Core.List.{[], _∷_}
 use mathlib.Core.Path.{_∙_}
 use native.Mathlib.Omega.{arith}
 use Rattle.layout.proofs.Walk.{has-all}
-use Rattle.layout.specs.Layout.{order, size, values}
+use Rattle.layout.specs.Layout.{order, size}
 use Rattle.record.proofs.Gathered.{order-texts}
-use Rattle.record.proofs.Tell.{kept, tell, refuse, found-by}
+use Rattle.record.proofs.Tell.{tell, refuse, found-by}
 use Rattle.record.proofs.order.read.Statement.{statement}
 use Rattle.record.proofs.order.read.Tie as tie
 
 gather-requires : tie.Need-gather-requires
 unfolding size
 gather-requires c κs =
-    let s = now (c .before .before .before .before .before .before .before .before .before .before .before .args .body) in
-    let h = has-all order s (found-by (c .before .before .before .before .before .before .before .enum-told .given .1) (c .before .before .before .before .before .before .before .before .before .judge .ensures)) .long in
+    let s = now (c .before .before .before .before .before .args .body) in
+    let h = has-all order s (found-by (c .before .enum-told .given .1) (c .before .before .before .judge .ensures)) .long in
     omega arith
 
 returns : tie.Need-returns
-unfolding values
 returns c =
-    let s = now (c .before .before .before .before .before .before .before .before .before .before .before .before .args .body) in
-    tell order s (found-by (c .before .before .before .before .before .before .before .before .enum-told .given .1) (c .before .before .before .before .before .before .before .before .before .before .judge .ensures))
-    (λ i.
-    pos (c .before .before .before .before .before .before .before .be2 .ensures i)
-    ∷ kept (c .before .before .before .before .before .before .i64-at .ok) (c .before .before .before .before .before .before .i64-at .ensures) i
-    ∷ kept (c .before .before .before .before .before .i64-at2 .ok) (c .before .before .before .before .before .i64-at2 .ensures) i
-    ∷ kept (c .before .before .before .before .i64-at3 .ok) (c .before .before .before .before .i64-at3 .ensures) i
-    ∷ pos (c .before .before .before .be1 .ensures i)
-    ∷ kept (c .before .before .i64-at4 .ok) (c .before .before .i64-at4 .ensures) i
-    ∷ pos (c .before .be12 .ensures i)
-    ∷ [])
-    (order-texts s) (c .gather .ensures .0) (c .gather .ensures .1)
+    let s = now (c .before .before .before .before .before .before .args .body) in
+    tell order s (found-by (c .before .before .enum-told .given .1) (c .before .before .before .before .judge .ensures))
+    (c .before .order-of .ensures) (order-texts s) (c .gather .ensures .0) (c .gather .ensures .1)
 
 returns-2 : tie.Need-returns-2
 returns-2 c =
@@ -44,12 +32,6 @@ read-spec =
     (tie.spec
     (λ c κs. search needs)
     (λ c. search needs)
-    (λ c κs. search needs)
-    (λ c κs. search needs)
-    (λ c κs. search needs)
-    (λ c κs. search needs)
-    (λ c κs. search needs)
-    (λ c κs. search needs)
     (λ c κs. search needs)
     gather-requires
     (λ c. search needs)

@@ -1,11 +1,9 @@
 use borrow.Author.Needs.{needs}
 use denote.Ref.{now}
-use lib.IntN.{pos}
-use mathlib.Core.List.{[], _∷_, _++_}
 use mathlib.Core.Path.{_∙_}
 use native.Mathlib.Omega.{arith}
 use Rattle.layout.proofs.Walk.{has-all}
-use Rattle.layout.specs.Layout.{snapshot, size, values}
+use Rattle.layout.specs.Layout.{snapshot, size}
 use Rattle.record.proofs.Gathered.{snapshot-texts}
 use Rattle.record.proofs.Tell.{tell, refuse, found-by}
 use Rattle.record.proofs.snapshot.read.Statement.{statement}
@@ -14,17 +12,15 @@ use Rattle.record.proofs.snapshot.read.Tie as tie
 gather-requires : tie.Need-gather-requires
 unfolding size
 gather-requires c κs =
-    let s = now (c .before .before .before .before .before .before .args .body) in
-    let h = has-all snapshot s (found-by (c .before .before .enum-told .given .1) (c .before .before .before .before .judge .ensures)) .long in
+    let s = now (c .before .before .before .before .before .args .body) in
+    let h = has-all snapshot s (found-by (c .before .enum-told .given .1) (c .before .before .before .judge .ensures)) .long in
     omega arith
 
 returns : tie.Need-returns
-unfolding values
 returns c =
-    let s = now (c .before .before .before .before .before .before .before .args .body) in
-    tell snapshot s (found-by (c .before .before .before .enum-told .given .1) (c .before .before .before .before .before .judge .ensures))
-    (λ i. (c .before .before .common-of .ensures) i ++ (pos (c .before .be4 .ensures i) ∷ []))
-    (snapshot-texts s) (c .gather .ensures .0) (c .gather .ensures .1)
+    let s = now (c .before .before .before .before .before .before .args .body) in
+    tell snapshot s (found-by (c .before .before .enum-told .given .1) (c .before .before .before .before .judge .ensures))
+    (c .before .snapshot-of .ensures) (snapshot-texts s) (c .gather .ensures .0) (c .gather .ensures .1)
 
 returns-2 : tie.Need-returns-2
 returns-2 c =
@@ -36,7 +32,6 @@ read-spec =
     (tie.spec
     (λ c κs. search needs)
     (λ c. search needs)
-    (λ c κs. search needs)
     (λ c κs. search needs)
     gather-requires
     (λ c. search needs)

@@ -1,0 +1,26 @@
+-- What the C interface answers of the tracker.
+-- Assumes nothing.
+use Prim.Native.Nat.{ℕ}
+use Rattle.wire.specs.Answer.{Answer, accepted, refused}
+use Rattle.gaps.specs.Channel.{Said, new, late, duplicate, heard}
+use Rattle.tracker.specs.SetUp.{Ready}
+use Rattle.tracker.specs.Arrived.{Outcome}
+use Rattle.board.specs.Board.{plain, lateNumber, duplicateNumber, answerNumber}
+use Rattle.board.specs.declared.arrivals.StartAnswer.{StartAnswer}
+use Rattle.board.specs.declared.arrivals.ArrivalAnswer.{ArrivalAnswer}
+
+-- new and heard are the plain answer
+abbrev pub saidNumber : Answer Said → ℕ
+saidNumber (accepted new) = plain
+saidNumber (accepted late) = lateNumber
+saidNumber (accepted duplicate) = duplicateNumber
+saidNumber (accepted heard) = plain
+saidNumber (refused n vs) = n
+
+-- the set-up's answer, and the tracker
+abbrev pub startAnswer : Ready → StartAnswer
+startAnswer r = record { answer = answerNumber (r .said); tracker = r .tracker }
+
+-- an arrival's answer, and the next tracker
+abbrev pub arrivalAnswer : Outcome → ArrivalAnswer
+arrivalAnswer o = record { answer = saidNumber (o .said); next = o .next }

@@ -1,0 +1,21 @@
+use borrow.Author.Needs.{needs}
+use lib.IntN.{pos}
+use mathlib.Core.List.{[], _∷_, _++_}
+use Rattle.layout.specs.Layout.{volumeIndex, values}
+use Rattle.record.specs.Record.{known}
+use Rattle.record.proofs.volume_index.volume_index_of.Statement.{statement}
+use Rattle.record.proofs.volume_index.volume_index_of.Tie as tie
+
+returns : tie.Need-returns
+unfolding values
+returns c =
+    λ i.
+    known volumeIndex (c .before .common-of .ensures i ++ (pos (c .be4 .ensures i) ∷ []))
+
+pub volume-index-of-spec : {M : Type 1} → statement M
+volume-index-of-spec =
+    tie.close
+    (tie.spec
+    (λ c κs. search needs)
+    (λ c κs. search needs)
+    returns)
