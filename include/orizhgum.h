@@ -1,0 +1,392 @@
+/* Orizhgum: frames, records, entries, tracker and writer of the Shenzhen binary market data gateway, for a C or C++ host.
+ *
+ * Every call is proved against its definition, for every input, and answers with a number: 0 is the plain answer, 1 to 99 are
+ * the refusals, 100 and up the other answers. On a refusal every number of the answer is 0, and what was lent is as it stood.
+ *
+ * The host's part, which no proof covers:
+ * - a pointer with a length refers to as many elements as the length says; NULL goes with length 0 only;
+ * - an output, and a lent int64_t, is the host's to write, and overlaps none of the inputs of the same call;
+ * - a bool holds true or false. */
+#ifndef ORIZHGUM_H
+#define ORIZHGUM_H
+
+#include <stdbool.h>
+#include <stddef.h>
+#include <stdint.h>
+
+#ifdef __cplusplus
+extern "C" {
+#endif
+
+/* ---- answers */
+
+enum {
+    ORIZHGUM_OK = 0,
+    ORIZHGUM_SHORT = 1,           /* fewer than 8 bytes, or fewer than the frame has */
+    ORIZHGUM_TOO_LONG = 2,        /* a body above 16,384 bytes */
+    ORIZHGUM_CHECKSUM = 3,        /* the checksum differs */
+    ORIZHGUM_NOT_ITS_LAYOUT = 4,  /* the body lacks bytes; in the writer, texts or groups that are not the stated fields */
+    ORIZHGUM_OUT_OF_RANGE = 5,    /* a field out of range */
+    ORIZHGUM_OUTPUT_SHORT = 6,    /* the output is too short */
+    ORIZHGUM_NO_CHANNEL = 7,      /* the channel is not in the tracker */
+    ORIZHGUM_NUMBER_TOO_LOW = 8,  /* a tick number below 1, or a last number below 0 */
+    ORIZHGUM_FULL = 9,            /* the next state would need a 33rd run */
+    ORIZHGUM_MALFORMED = 10,      /* a list of channels, or a tracker, that breaks the rules */
+    ORIZHGUM_NO_SUCH_ENTRY = 101, /* a position not below the count */
+    ORIZHGUM_NO_PRICE = 102,      /* an entry that says no price; the lent number is as it stood */
+    ORIZHGUM_LATE = 103,          /* a tick that was missing */
+    ORIZHGUM_DUPLICATE = 104      /* a tick that had come before */
+};
+
+/* ---- types */
+
+enum {
+    ORIZHGUM_HEARTBEAT = 3,
+    ORIZHGUM_SNAPSHOT = 300111,
+    ORIZHGUM_TRADE = 300191,
+    ORIZHGUM_ORDER = 300192,
+    ORIZHGUM_INDEX = 309011,
+    ORIZHGUM_VOLUME_INDEX = 309111,
+    ORIZHGUM_SECURITY_STATUS = 390013,
+    ORIZHGUM_STATISTICS = 390090,
+    ORIZHGUM_RESEND = 390094,
+    ORIZHGUM_CHANNEL_HEARTBEAT = 390095
+};
+
+/* ---- the frame that some bytes begin with: its type, the length of its body, which begins at place 8, and of the frame */
+
+struct orizhgum_frame_answer {
+    uint32_t answer;
+    uint32_t kind;
+    size_t len;
+    size_t total;
+};
+
+struct orizhgum_frame_answer orizhgum_frame(const uint8_t *bytes, size_t length);
+
+/* ---- records: the numbers of a body's fixed fields, and its texts. A heartbeat has none of either, and reads from any body.
+ * Prices and amounts have four decimals, quantities and volumes two. */
+
+struct orizhgum_order {
+    uint16_t channel;
+    int64_t number;
+    int64_t order_price;
+    int64_t quantity;
+    uint8_t side;
+    int64_t time;
+    uint8_t order_type;
+};
+
+struct orizhgum_order_answer {
+    uint32_t answer;
+    struct orizhgum_order numbers;
+    struct {
+        char stream[3];
+        char security[8];
+        char source[4];
+        char unused[9];
+    } texts;
+};
+
+struct orizhgum_order_answer orizhgum_order(const uint8_t *body, size_t length);
+
+struct orizhgum_trade {
+    uint16_t channel;
+    int64_t number;
+    int64_t bid_number;
+    int64_t offer_number;
+    int64_t trade_price;
+    int64_t quantity;
+    uint8_t execution;
+    int64_t time;
+};
+
+struct orizhgum_trade_answer {
+    uint32_t answer;
+    struct orizhgum_trade numbers;
+    struct {
+        char stream[3];
+        char security[8];
+        char source[4];
+        char unused[9];
+    } texts;
+};
+
+struct orizhgum_trade_answer orizhgum_trade(const uint8_t *body, size_t length);
+
+struct orizhgum_channel_heartbeat {
+    uint16_t channel;
+    int64_t last_number;
+    uint16_t end;
+};
+
+struct orizhgum_channel_heartbeat_answer {
+    uint32_t answer;
+    struct orizhgum_channel_heartbeat numbers;
+    struct {
+        char unused[24];
+    } texts;
+};
+
+struct orizhgum_channel_heartbeat_answer orizhgum_channel_heartbeat(const uint8_t *body, size_t length);
+
+struct orizhgum_resend {
+    uint8_t resend_type;
+    uint16_t channel;
+    int64_t first_number;
+    int64_t last_number;
+    uint8_t status;
+};
+
+struct orizhgum_resend_answer {
+    uint32_t answer;
+    struct orizhgum_resend numbers;
+    struct {
+        char news_id[8];
+        char text[16];
+    } texts;
+};
+
+struct orizhgum_resend_answer orizhgum_resend(const uint8_t *body, size_t length);
+
+struct orizhgum_common {
+    int64_t time;
+    uint16_t channel;
+    int64_t previous_close;
+    int64_t trade_count;
+    int64_t volume;
+    int64_t amount;
+};
+
+struct orizhgum_snapshot {
+    struct orizhgum_common common;
+    uint32_t count;
+};
+
+struct orizhgum_snapshot_answer {
+    uint32_t answer;
+    struct orizhgum_snapshot numbers;
+    struct {
+        char stream[3];
+        char security[8];
+        char source[4];
+        char phase[8];
+        char unused[1];
+    } texts;
+};
+
+struct orizhgum_snapshot_answer orizhgum_snapshot(const uint8_t *body, size_t length);
+
+struct orizhgum_index {
+    struct orizhgum_common common;
+    uint32_t count;
+};
+
+struct orizhgum_index_answer {
+    uint32_t answer;
+    struct orizhgum_index numbers;
+    struct {
+        char stream[3];
+        char security[8];
+        char source[4];
+        char phase[8];
+        char unused[1];
+    } texts;
+};
+
+struct orizhgum_index_answer orizhgum_index(const uint8_t *body, size_t length);
+
+struct orizhgum_volume_index {
+    struct orizhgum_common common;
+    uint32_t stock_number;
+};
+
+struct orizhgum_volume_index_answer {
+    uint32_t answer;
+    struct orizhgum_volume_index numbers;
+    struct {
+        char stream[3];
+        char security[8];
+        char source[4];
+        char phase[8];
+        char unused[1];
+    } texts;
+};
+
+struct orizhgum_volume_index_answer orizhgum_volume_index(const uint8_t *body, size_t length);
+
+struct orizhgum_statistics {
+    int64_t time;
+    uint16_t channel;
+    uint32_t count;
+};
+
+struct orizhgum_statistics_answer {
+    uint32_t answer;
+    struct orizhgum_statistics numbers;
+    struct {
+        char unused[24];
+    } texts;
+};
+
+struct orizhgum_statistics_answer orizhgum_statistics(const uint8_t *body, size_t length);
+
+struct orizhgum_security_status {
+    int64_t time;
+    uint16_t channel;
+    uint32_t count;
+};
+
+struct orizhgum_security_status_answer {
+    uint32_t answer;
+    struct orizhgum_security_status numbers;
+    struct {
+        char security[8];
+        char source[4];
+        char financial_status[8];
+        char unused[4];
+    } texts;
+};
+
+struct orizhgum_security_status_answer orizhgum_security_status(const uint8_t *body, size_t length);
+
+/* ---- entries of a snapshot or an index: no struct of an entry holds a price */
+
+/* what an entry says */
+enum {
+    ORIZHGUM_SAYS_LEVEL = 1,
+    ORIZHGUM_SAYS_LEVEL_WITHOUT_PRICE = 2,
+    ORIZHGUM_SAYS_PRICE = 3,
+    ORIZHGUM_SAYS_SIZE = 4,
+    ORIZHGUM_SAYS_PRICE_AND_SIZE = 5,
+    ORIZHGUM_SAYS_NO_LIMIT = 6,
+    ORIZHGUM_SAYS_UNKNOWN = 7
+};
+
+/* the two type characters, the first the higher byte; a number that the entry does not say is 0 */
+struct orizhgum_entry {
+    uint32_t says;
+    uint16_t characters;
+    uint16_t level;
+    int64_t size;
+    int64_t order_count;
+    uint32_t shown;
+};
+
+struct orizhgum_entry_answer {
+    uint32_t answer;
+    struct orizhgum_entry entry;
+};
+
+/* the place of the next entry, and how many are left */
+struct orizhgum_cursor {
+    size_t place;
+    uint32_t left;
+};
+
+struct orizhgum_step_answer {
+    uint32_t answer;
+    struct orizhgum_entry entry;
+    struct orizhgum_cursor next;
+};
+
+struct orizhgum_quantity_answer {
+    uint32_t answer;
+    int64_t quantity;
+};
+
+/* the cursor before the first entry, for a body that its record's call accepts */
+struct orizhgum_cursor orizhgum_cursor(uint32_t kind, const uint8_t *body, size_t length);
+
+/* the entry at a cursor and the cursor behind it; without an entry the cursor stays */
+struct orizhgum_step_answer orizhgum_step(struct orizhgum_cursor at, uint32_t kind, const uint8_t *body, size_t length);
+
+/* the price of the entry at a cursor; ORIZHGUM_NO_PRICE, and every other answer but 0, leaves *price as it stood */
+uint32_t orizhgum_step_price(struct orizhgum_cursor at, uint32_t kind, const uint8_t *body, size_t length, int64_t *price);
+
+/* entry i, its price, and shown quantity j of it, by position from 0: each call judges the whole body */
+struct orizhgum_entry_answer orizhgum_entry(uint32_t kind, const uint8_t *body, size_t length, uint32_t i);
+
+uint32_t orizhgum_entry_price(uint32_t kind, const uint8_t *body, size_t length, uint32_t i, int64_t *price);
+
+struct orizhgum_quantity_answer orizhgum_quantity(uint32_t kind, const uint8_t *body, size_t length, uint32_t i, uint32_t j);
+
+/* ---- the tracker: which numbers of up to eight channels never came. Each arrival takes it and gives back the next one.
+ * A host that changes it by hand gets 10, or a tracker of its own making, and never anything undefined. */
+
+#define ORIZHGUM_CHANNELS 8
+#define ORIZHGUM_RUNS 32
+
+/* run r of the channel at place c stands at place ORIZHGUM_RUNS * c + r of first and last */
+struct orizhgum_tracker {
+    size_t count;
+    uint16_t numbers[ORIZHGUM_CHANNELS];
+    uint64_t highest[ORIZHGUM_CHANNELS];
+    bool ended[ORIZHGUM_CHANNELS];
+    size_t counts[ORIZHGUM_CHANNELS];
+    uint64_t first[ORIZHGUM_CHANNELS * ORIZHGUM_RUNS];
+    uint64_t last[ORIZHGUM_CHANNELS * ORIZHGUM_RUNS];
+};
+
+struct orizhgum_start_answer {
+    uint32_t answer;
+    struct orizhgum_tracker tracker;
+};
+
+struct orizhgum_arrival_answer {
+    uint32_t answer;
+    struct orizhgum_tracker next;
+};
+
+/* 1 to 8 channel numbers, strictly ascending */
+struct orizhgum_start_answer orizhgum_set_up(const uint16_t *channels, size_t length);
+
+/* 0 where the number is new, ORIZHGUM_LATE where it was missing, ORIZHGUM_DUPLICATE where it had come */
+struct orizhgum_arrival_answer orizhgum_tick(struct orizhgum_tracker tracker, uint16_t channel, int64_t number);
+
+/* a channel heartbeat with the channel's last number; always 0 where it is not refused */
+struct orizhgum_arrival_answer orizhgum_heartbeat(struct orizhgum_tracker tracker, uint16_t channel, int64_t last, bool end);
+
+/* ---- the writer: a frame to the start of out, with texts and groups as bytes in wire layout.
+ * A type without texts, or without groups, takes none of them. */
+
+struct orizhgum_write_answer {
+    uint32_t answer;
+    size_t written;
+};
+
+struct orizhgum_write_answer orizhgum_write_order(struct orizhgum_order numbers, const uint8_t *texts, size_t texts_length,
+    const uint8_t *groups, size_t groups_length, uint8_t *out, size_t out_length);
+
+struct orizhgum_write_answer orizhgum_write_trade(struct orizhgum_trade numbers, const uint8_t *texts, size_t texts_length,
+    const uint8_t *groups, size_t groups_length, uint8_t *out, size_t out_length);
+
+struct orizhgum_write_answer orizhgum_write_channel_heartbeat(struct orizhgum_channel_heartbeat numbers, const uint8_t *texts, size_t texts_length,
+    const uint8_t *groups, size_t groups_length, uint8_t *out, size_t out_length);
+
+struct orizhgum_write_answer orizhgum_write_resend(struct orizhgum_resend numbers, const uint8_t *texts, size_t texts_length,
+    const uint8_t *groups, size_t groups_length, uint8_t *out, size_t out_length);
+
+struct orizhgum_write_answer orizhgum_write_snapshot(struct orizhgum_snapshot numbers, const uint8_t *texts, size_t texts_length,
+    const uint8_t *groups, size_t groups_length, uint8_t *out, size_t out_length);
+
+struct orizhgum_write_answer orizhgum_write_index(struct orizhgum_index numbers, const uint8_t *texts, size_t texts_length,
+    const uint8_t *groups, size_t groups_length, uint8_t *out, size_t out_length);
+
+struct orizhgum_write_answer orizhgum_write_volume_index(struct orizhgum_volume_index numbers, const uint8_t *texts, size_t texts_length,
+    const uint8_t *groups, size_t groups_length, uint8_t *out, size_t out_length);
+
+struct orizhgum_write_answer orizhgum_write_statistics(struct orizhgum_statistics numbers, const uint8_t *texts, size_t texts_length,
+    const uint8_t *groups, size_t groups_length, uint8_t *out, size_t out_length);
+
+struct orizhgum_write_answer orizhgum_write_security_status(struct orizhgum_security_status numbers, const uint8_t *texts, size_t texts_length,
+    const uint8_t *groups, size_t groups_length, uint8_t *out, size_t out_length);
+
+struct orizhgum_write_answer orizhgum_write_heartbeat(const uint8_t *texts, size_t texts_length,
+    const uint8_t *groups, size_t groups_length, uint8_t *out, size_t out_length);
+
+#ifdef __cplusplus
+}
+#endif
+
+#endif
