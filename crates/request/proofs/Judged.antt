@@ -32,6 +32,10 @@ pub request-length : requestLength ≡ 56
 unfolding size
 request-length = refl
 
+-- the record of signed numbers that are the run's
+pub resend-of : (k : ℕ) (r : Run) {a b : ℤ} → a ≡ pos (r .first) → b ≡ pos (r .last) → known resend (pos 1 ∷ pos k ∷ a ∷ b ∷ pos 0 ∷ []) ≡ resendOf k r
+resend-of k r e f = rw (e, f)
+
 natural-in : (n : ℕ) → n ≤ mostNumber → ranged lastNumber n ≡ true
 unfolding ranged
 natural-in n h = sym (at-least-0 n) ∙ le-leb n mostNumber h

@@ -41,6 +41,7 @@ byNumbers = 1
 abbrev pub noStatus : ℕ
 noStatus = 0
 
+-- the character "space"
 abbrev pub space : ℕ
 space = 0x20
 
@@ -87,6 +88,7 @@ abbrev pub said : Lost → Said
 said (lost r) = written requestLength
 said nothingMissing = nothing
 
+-- a refusal returns its number
 abbrev pub answerOf : Answer Lost → Answer Said
 answerOf (accepted x) = accepted (said x)
 answerOf (refused n vs) = refused n vs
@@ -97,9 +99,11 @@ outputOf (accepted (lost r)) k out = splice out 0 (requestFrame k r)
 outputOf (accepted nothingMissing) k out = out
 outputOf (refused n vs) k out = out
 
+-- what a request for channel k is answered
 unfoldable pub answering : Tracker → ℕ → List ℕ → Answer Said
 answering t k out = answerOf (judging t k (length out))
 
+-- what the output holds after it
 unfoldable pub leaving : Tracker → ℕ → List ℕ → List ℕ
 leaving t k out = outputOf (judging t k (length out)) k out
 

@@ -2,13 +2,14 @@ use borrow.Author.Needs.{needs}
 use native.Mathlib.Omega.{arith}
 use mir.Syntax.{w64}
 use mir.Facts.{toZ-pos}
+use Rattle.request.proofs.Judged.{resend-of}
 use Rattle.request.proofs.resend.Statement.{statement}
 use Rattle.request.proofs.resend.Tie as tie
 
 returns : tie.Need-returns
 returns c =
-    let r = c .before .before .args .run in
-    rw (toZ-pos w64 {n = r .first} (omega arith), toZ-pos w64 {n = r .last} (omega arith))
+    let s = c .before .before .args in
+    resend-of (s .channel) (s .run) (toZ-pos w64 {n = s .run .first} (omega arith)) (toZ-pos w64 {n = s .run .last} (omega arith))
 
 pub resend-spec : {M : Type 1} → statement M
 resend-spec =
