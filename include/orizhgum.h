@@ -250,6 +250,23 @@ struct orizhgum_security_status_answer {
 
 struct orizhgum_security_status_answer orizhgum_security_status(const uint8_t *body, size_t length);
 
+/* ---- groups of statistics and of security status, by position from 0: the stock number, stream and phase of the first,
+ * the switch type and yes/no of the second; the others are 0 */
+
+struct orizhgum_group_answer {
+    uint32_t answer;
+    uint32_t stock_number;
+    uint16_t switch_type;
+    uint16_t yes_no;
+    struct {
+        char stream[3];
+        char phase[8];
+        char unused[13];
+    } texts;
+};
+
+struct orizhgum_group_answer orizhgum_group(uint32_t kind, const uint8_t *body, size_t length, uint32_t i);
+
 /* ---- entries of a snapshot or an index: no struct of an entry holds a price */
 
 /* what an entry says */

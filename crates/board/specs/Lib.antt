@@ -1,5 +1,6 @@
 pub mod Board
 pub mod Records
+pub mod Groups
 pub mod Entries
 pub mod Arrivals
 pub mod Written

@@ -7,6 +7,7 @@ use frame::Framed;
 mod answers;
 mod arrivals;
 mod entries;
+mod groups;
 mod records;
 mod written;
 
