@@ -4,14 +4,14 @@ use Prim.Native.Nat.{ℕ}
 use lib.IntN.{ℤ, pos, natAbs}
 use Rattle.wire.specs.Answer.{Answer, accepted, refused}
 use Rattle.record.specs.Asked.{Asked, found, noSuchEntry}
-use Rattle.record.specs.Entry.{Says, level, levelWithoutPrice, price, size, both, noLimit, unknown, Stepped}
-use Rattle.record.specs.Entry as entry-of
-use Rattle.record.specs.declared.cursor.Cursor.{Cursor}
+use Rattle.entries.specs.Entry.{Says, level, levelWithoutPrice, price, size, both, noLimit, unknown, Stepped}
+use Rattle.entries.specs.Entry as entry-of
+use Rattle.entries.specs.declared.cursor.Cursor.{Cursor}
 use Rattle.board.specs.Board.{plain, noSuchEntryNumber, noPrice}
-use Rattle.board.specs.declared.entries.Entry.{Entry}
-use Rattle.board.specs.declared.entries.EntryAnswer.{EntryAnswer}
-use Rattle.board.specs.declared.entries.StepAnswer.{StepAnswer}
-use Rattle.board.specs.declared.entries.QuantityAnswer.{QuantityAnswer}
+use Rattle.board.specs.declared.entry.Entry.{Entry}
+use Rattle.board.specs.declared.entry.EntryAnswer.{EntryAnswer}
+use Rattle.board.specs.declared.entry.StepAnswer.{StepAnswer}
+use Rattle.board.specs.declared.entry.QuantityAnswer.{QuantityAnswer}
 
 -- ---- the price
 

@@ -6,7 +6,7 @@ use frame::Framed;
 
 mod answers;
 mod arrivals;
-mod entries;
+mod entry;
 mod groups;
 mod records;
 mod written;

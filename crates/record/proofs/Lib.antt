@@ -4,7 +4,3 @@ pub mod Choice
 pub mod Grouped
 pub mod Unique
 pub mod Names
-pub mod Says
-pub mod Entries
-pub mod Steps
-pub mod UniqueEntry

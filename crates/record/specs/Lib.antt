@@ -1,4 +1,3 @@
 pub mod Asked
-pub mod Entry
 pub mod Record
 pub mod Paper

@@ -1,11 +1,11 @@
 // The indented lines below a record's: its groups, and its entries with their shown quantities.
 use crate::field;
-use record::AskedQuantity;
-use record::Cursor;
-use record::Entry;
+use entries::AskedQuantity;
+use entries::Cursor;
+use entries::Entry;
+use entries::Says;
+use entries::Step;
 use record::GroupAnswer;
-use record::Says;
-use record::Step;
 use record::Stream;
 use record::Switch;
 use record::Text;
@@ -125,7 +125,7 @@ fn quantities(out: &mut [u8], at: usize, kind: u32, body: &[u8], i: u32) -> usiz
     let mut place = at;
     let mut j: u32 = 0;
     while j < u32::MAX {
-        match record::quantity_of(kind, body, i, j) {
+        match entries::quantity_of(kind, body, i, j) {
             AskedQuantity::Found(z) => {
                 place = shown(out, place, j, z);
             }

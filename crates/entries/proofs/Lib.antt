@@ -1,0 +1,4 @@
+pub mod Says
+pub mod Entries
+pub mod Steps
+pub mod Unique

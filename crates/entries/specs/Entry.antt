@@ -1,0 +1,250 @@
+-- Document 01, "What an entry says".
+-- Entries by position, shown quantities and the cursor are defined here over layout's place, shown and judgedFrom.
+-- Assumes nothing.
+use Prim.Native.Nat.{ℕ, zero, suc, _+_, _-_, _*_}
+use mathlib.Core.Bool.{Bool, true, false, cond}
+use mathlib.Core.List.{List, [], _∷_}
+use lib.Dec.{eqb}
+use lib.IntN.{ℤ, pos, negsuc, negℤ}
+use lib.ListN.{getD}
+use mir.Syntax.{w64}
+use mir.Val.{toZ}
+use Rattle.wire.specs.Answer.{Answer, accepted, refused, guard, andThen}
+use Rattle.wire.specs.Bytes.{beAt}
+use Rattle.layout.specs.Kind.{among, entryType, quantity, form, valueIn, width}
+use Rattle.layout.specs.Layout.{Message, Listed, listed, unlisted, named, Group, Entries, ofSnapshot, ofIndex, entryGroup, Behind, nothing, groups, entries, behind, values}
+use Rattle.layout.specs.Group.{shown, shownPlace, next, place, judgedFrom, start, counted}
+use Rattle.record.specs.Asked.{Asked, found, noSuchEntry, below, judging}
+
+-- ---- the two type characters, the first the higher byte
+
+-- a digit, "right-filled with a space"
+abbrev pub digit : ℕ → ℕ
+digit d = (0x30 + d) * 256 + 0x20
+
+-- x and another character
+abbrev pub x : ℕ → ℕ
+x c = 0x78 * 256 + c
+
+-- x and a digit
+abbrev pub x-digit : ℕ → ℕ
+x-digit d = x (0x30 + d)
+
+abbrev pub xa : ℕ
+xa = x 0x61
+
+abbrev pub xb : ℕ
+xb = x 0x62
+
+abbrev pub xc : ℕ
+xc = x 0x63
+
+abbrev pub xd : ℕ
+xd = x 0x64
+
+abbrev pub xe : ℕ
+xe = x 0x65
+
+abbrev pub xf : ℕ
+xf = x 0x66
+
+abbrev pub xg : ℕ
+xg = x 0x67
+
+abbrev pub xj : ℕ
+xj = x 0x6a
+
+abbrev pub xk : ℕ
+xk = x 0x6b
+
+-- "`0`, `1`"
+abbrev pub levels : List ℕ
+levels = digit 0 ∷ digit 1 ∷ []
+
+-- "`2` `4` `7` `8` `9` `x1` `x2` `x5` `x6` `x7` `x8` `x9` `xj` `xk`: a price"
+abbrev pub prices : List ℕ
+prices =
+    digit 2 ∷ digit 4 ∷ digit 7 ∷ digit 8 ∷ digit 9 ∷ x-digit 1 ∷ x-digit 2 ∷ x-digit 5 ∷ x-digit 6 ∷ x-digit 7 ∷ x-digit 8 ∷ x-digit 9 ∷ xj ∷ xk ∷ []
+
+-- "`x3` `x4`: price and size"
+abbrev pub boths : List ℕ
+boths = x-digit 3 ∷ x-digit 4 ∷ []
+
+-- "In 309011 `3`, `xa`, `xb`, `xc`, `xd` are a price"
+abbrev pub indexPrices : List ℕ
+indexPrices = digit 3 ∷ xa ∷ xb ∷ xc ∷ xd ∷ []
+
+-- ---- the seven things
+
+-- level: price, size, level number, order count, shown quantities; a level without a price: the same, but no price; a price; a size; price and size; no limit; unknown
+pub data Says : Type 0 where
+  level : ℤ → ℤ → ℤ → ℤ → ℤ → Says
+  levelWithoutPrice : ℤ → ℤ → ℤ → ℤ → Says
+  price : ℤ → Says
+  size : ℤ → Says
+  both : ℤ → ℤ → Says
+  noLimit : Says
+  unknown : Says
+
+-- "`xe` holding 9,999,999,999,999 or `xf` holding -9,999,999,999,999: no limit"
+abbrev pub noLimitMark : ℕ
+noLimitMark = 9999999999999
+
+-- whether two numbers are the same
+abbrev pub same : ℤ → ℤ → Bool
+same (pos m) (pos n) = eqb m n
+same (pos m) (negsuc n) = false
+same (negsuc m) (pos n) = false
+same (negsuc m) (negsuc n) = eqb m n
+
+-- the numbers of an entry's fields behind its type, in the layout's order
+abbrev pub priceIn : List ℤ → ℤ
+priceIn vs = getD vs 1 (pos 0)
+
+abbrev pub sizeIn : List ℤ → ℤ
+sizeIn vs = getD vs 2 (pos 0)
+
+abbrev pub levelIn : List ℤ → ℤ
+levelIn vs = getD vs 3 (pos 0)
+
+abbrev pub orderCountIn : List ℤ → ℤ
+orderCountIn vs = getD vs 4 (pos 0)
+
+abbrev pub shownIn : List ℤ → ℤ
+shownIn vs = getD vs 5 (pos 0)
+
+-- "a level", "with price 0: a level without a price"
+abbrev pub levelSaid : List ℤ → Says
+levelSaid vs =
+    cond (same (priceIn vs) (pos 0)) (levelWithoutPrice (sizeIn vs) (levelIn vs) (orderCountIn vs) (shownIn vs))
+    (level (priceIn vs) (sizeIn vs) (levelIn vs) (orderCountIn vs) (shownIn vs))
+
+-- "`xe`, `xf` too, unless as next"
+abbrev pub unless : ℤ → List ℤ → Says
+unless mark vs = cond (same (priceIn vs) mark) noLimit (price (priceIn vs))
+
+-- "An entry reads as exactly one of seven things, by its two type characters"
+unfoldable pub saysIn : Entries → ℕ → List ℤ → Says
+saysIn ofSnapshot type vs =
+    cond (among levels type) (levelSaid vs)
+    (cond (among prices type) (price (priceIn vs))
+    (cond (eqb type xe) (unless (pos noLimitMark) vs)
+    (cond (eqb type xf) (unless (negℤ (pos noLimitMark)) vs)
+    (cond (eqb type xg) (size (sizeIn vs))
+    (cond (among boths type) (both (priceIn vs) (sizeIn vs)) unknown)))))
+saysIn ofIndex type vs = cond (among indexPrices type) (price (priceIn vs)) unknown
+
+-- an entry: its two type characters, and what it says
+pub record Entry : Type 0 where
+  pub characters : ℕ
+  pub says : Says
+
+unfoldable pub entryAt : Entries → List ℕ → ℕ → Entry
+entryAt e s at =
+    record {
+      characters = beAt s at (width entryType);
+      says = saysIn e (beAt s at (width entryType)) (values (entryGroup e .fields) s at);
+    }
+
+-- ---- "asked for by position from 0 (a type without them, or an unknown type, has count 0)"
+
+-- entry i
+abbrev pub entryIn : Behind → ℕ → List ℕ → ℕ → Asked Entry
+entryIn nothing end s i = noSuchEntry
+entryIn (groups g) end s i = noSuchEntry
+entryIn (entries e) end s i = below i (counted (entries e) end s) (entryAt e s (place (entryGroup e) s end i))
+
+abbrev pub entryOf : Listed → List ℕ → ℕ → Asked Entry
+entryOf (listed m) s i = entryIn (behind m) (start m) s i
+entryOf unlisted s i = noSuchEntry
+
+-- after 4 and 5
+unfoldable pub entryAsked : ℕ → List ℕ → ℕ → Answer (Asked Entry)
+entryAsked type s i = andThen (judging type s) (λ (u : Unit). accepted (entryOf (named type) s i))
+
+-- shown quantity j of the group at a place: the wire's count decides
+abbrev pub quantityAt : Group → List ℕ → ℕ → ℕ → Asked ℤ
+quantityAt g s at j =
+    below j (shown g s at)
+    (valueIn (form quantity) (beAt s (shownPlace g at + width quantity * j) (width quantity)))
+
+-- shown quantity j of entry i
+abbrev pub ofFound : {A B : Type 0} → Asked A → Asked B → Asked B
+ofFound (found x) y = y
+ofFound noSuchEntry y = noSuchEntry
+
+abbrev pub quantityIn : Behind → ℕ → List ℕ → ℕ → ℕ → Asked ℤ
+quantityIn nothing end s i j = noSuchEntry
+quantityIn (groups g) end s i j = noSuchEntry
+quantityIn (entries e) end s i j =
+    ofFound (entryIn (entries e) end s i) (quantityAt (entryGroup e) s (place (entryGroup e) s end i) j)
+
+abbrev pub quantityOf : Listed → List ℕ → ℕ → ℕ → Asked ℤ
+quantityOf (listed m) s i j = quantityIn (behind m) (start m) s i j
+quantityOf unlisted s i j = noSuchEntry
+
+unfoldable pub quantityAsked : ℕ → List ℕ → ℕ → ℕ → Answer (Asked ℤ)
+quantityAsked type s i j = andThen (judging type s) (λ (u : Unit). accepted (quantityOf (named type) s i j))
+
+-- ---- the cursor: a place, and how many entries are left
+
+pub record At : Type 0 where
+  pub place : ℕ
+  pub left : ℕ
+
+-- a type without entries, or an unknown type, has none left
+abbrev pub atNone : At
+atNone = record { place = 0; left = 0 }
+
+-- before the first entry
+abbrev pub startIn : Behind → ℕ → List ℕ → At
+startIn nothing end s = atNone
+startIn (groups g) end s = atNone
+startIn (entries e) end s = record { place = end; left = counted (entries e) end s }
+
+unfoldable pub startOf : Listed → List ℕ → At
+startOf (listed m) s = startIn (behind m) (start m) s
+startOf unlisted s = atNone
+
+-- an entry, and the cursor behind it
+pub record Stepped : Type 0 where
+  pub entry : Entry
+  pub onward : At
+
+-- the entry at a cursor, after 4 and 5 for its own fields and shown quantities; at 0 left there is none
+abbrev pub stepIn : Behind → List ℕ → At → Answer (Asked Stepped)
+stepIn nothing s c = accepted noSuchEntry
+stepIn (groups g) s c = accepted noSuchEntry
+stepIn (entries e) s c =
+    guard (eqb (c .left) 0) (accepted noSuchEntry)
+    (andThen (judgedFrom (entryGroup e) s (c .place) 1)
+    (λ (u : Unit).
+    accepted
+    (found
+    (record {
+      entry = entryAt e s (c .place);
+      onward = record { place = next (entryGroup e) s (c .place); left = c .left - 1 };
+    }))))
+
+unfoldable pub stepOf : Listed → List ℕ → At → Answer (Asked Stepped)
+stepOf (listed m) s c = stepIn (behind m) s c
+stepOf unlisted s c = accepted noSuchEntry
+
+-- ---- step after step
+
+-- from what a step answers on to the cursor behind its entry, if it found one
+abbrev pub onFrom : Answer (Asked Stepped) → (At → Answer (Asked Stepped)) → Answer (Asked Stepped)
+onFrom (accepted (found x)) go = go (x .onward)
+onFrom (accepted noSuchEntry) go = accepted noSuchEntry
+onFrom (refused n vs) go = refused n vs
+
+-- step i from a cursor on, from 0
+unfoldable pub stepAfter : Listed → List ℕ → ℕ → At → Answer (Asked Stepped)
+stepAfter l s zero c = stepOf l s c
+stepAfter l s (suc i) c = onFrom (stepOf l s c) (stepAfter l s i)
+
+-- the entry that a step answers, without the cursor
+abbrev pub entryFound : Answer (Asked Stepped) → Answer (Asked Entry)
+entryFound (accepted (found x)) = accepted (found (x .entry))
+entryFound (accepted noSuchEntry) = accepted noSuchEntry
+entryFound (refused n vs) = refused n vs

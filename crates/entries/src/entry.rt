@@ -1,0 +1,340 @@
+// Entries: what each says, and entries and their shown quantities by position.
+ghost use mathlib.Core.Path.{_≡_};
+ghost use mathlib.Core.Bool.{true, cond};
+ghost use mathlib.Core.List.{[], _∷_};
+ghost use Prim.Native.Nat.{_<_};
+ghost use lib.IntN.{pos};
+ghost use Rattle.wire.specs.Answer.{accepted};
+ghost use Rattle.wire.specs.Bytes.{beAt};
+ghost use Rattle.layout.specs.Kind.{among};
+ghost use Rattle.layout.specs.Layout.{ofSnapshot, ofIndex, entryGroup, entries};
+ghost use Rattle.layout.specs.Group.{fit, next, place};
+ghost use Rattle.layout.specs.Paper.{meant};
+ghost use Rattle.entries.specs.Entry.{levels, prices, boths, indexPrices, same, saysIn, entryAt, entryIn, entryAsked, quantityAt, quantityIn, quantityAsked};
+ghost use Rattle.entries.specs.Entry as of;
+ghost use Rattle.entries.specs.Paper.{whose, paperSays, paperEntry, paperAskedEntry, paperQuantity};
+use layout::Groups;
+use layout::Refusal;
+use layout::Verdict;
+use record::Record;
+use record::judge;
+
+// Where the count of entries stands, and where the first does: behind the common part.
+pub(crate) const COUNT: usize = 65;
+
+pub(crate) const START: usize = 69;
+
+// Whose entries: a snapshot's, or an index's.
+pub enum Entries {
+    OfSnapshot,
+    OfIndex,
+}
+
+// What an entry says: exactly one of seven things.
+pub enum Says {
+    Level {
+        entry_price: i64,
+        size: i64,
+        level: u16,
+        order_count: i64,
+        shown: u32,
+    },
+    LevelWithoutPrice {
+        size: i64,
+        level: u16,
+        order_count: i64,
+        shown: u32,
+    },
+    Price {
+        entry_price: i64,
+    },
+    Size {
+        size: i64,
+    },
+    Both {
+        entry_price: i64,
+        size: i64,
+    },
+    NoLimit,
+    Unknown,
+}
+
+// An entry: its two type characters, the first the higher byte, and what it says.
+pub struct Entry {
+    pub characters: u16,
+    pub says: Says,
+}
+
+// Entry i of a body.
+pub enum AskedEntry {
+    Found(Entry),
+    NoSuchEntry,
+    Refused(Refusal),
+}
+
+// Shown quantity j of entry i.
+pub enum AskedQuantity {
+    Found(i64),
+    NoSuchEntry,
+    Refused(Refusal),
+}
+
+// Which type characters are a level, a price, price and size; and a price in an index. `0` is 0x3020, `x1` is 0x7831.
+fn is_level(characters: u16) -> bool
+    ensures { λ r. ⌜ r ≡ among levels characters ⌝ }
+{
+    (characters == 0x3020) | (characters == 0x3120)
+}
+
+fn is_price(characters: u16) -> bool
+    ensures { λ r. ⌜ r ≡ among prices characters ⌝ }
+{
+    (characters == 0x3220)
+        | ((characters == 0x3420)
+            | ((characters == 0x3720)
+                | ((characters == 0x3820)
+                    | ((characters == 0x3920)
+                        | ((characters == 0x7831)
+                            | ((characters == 0x7832)
+                                | ((characters == 0x7835)
+                                    | ((characters == 0x7836)
+                                        | ((characters == 0x7837)
+                                            | ((characters == 0x7838)
+                                                | ((characters == 0x7839)
+                                                    | ((characters == 0x786a)
+                                                        | (characters == 0x786b)))))))))))))
+}
+
+fn is_both(characters: u16) -> bool
+    ensures { λ r. ⌜ r ≡ among boths characters ⌝ }
+{
+    (characters == 0x7833) | (characters == 0x7834)
+}
+
+fn is_index_price(characters: u16) -> bool
+    ensures { λ r. ⌜ r ≡ among indexPrices characters ⌝ }
+{
+    (characters == 0x3320)
+        | ((characters == 0x7861)
+            | ((characters == 0x7862) | ((characters == 0x7863) | (characters == 0x7864))))
+}
+
+const XE: u16 = 0x7865;
+
+const XF: u16 = 0x7866;
+
+const XG: u16 = 0x7867;
+
+// The prices by which `xe` and `xf` say that there is no limit.
+const NO_UPPER_LIMIT: i64 = 9_999_999_999_999;
+
+const NO_LOWER_LIMIT: i64 = -9_999_999_999_999;
+
+// A price, unless it is the mark that there is no limit.
+fn limit(price: i64, mark: i64) -> Says
+    ensures { λ r. ⌜ paperSays r ≡ cond (same price mark) of.noLimit (of.price price) ⌝ }
+{
+    if price == mark {
+        Says::NoLimit
+    } else {
+        Says::Price { entry_price: price }
+    }
+}
+
+// What an entry of a snapshot says.
+fn said(characters: u16, price: i64, size: i64, level: u16, orders: i64, shown: u32) -> Says
+    ensures { λ r. ⌜ paperSays r ≡ saysIn ofSnapshot characters (pos characters ∷ price ∷ size ∷ pos level ∷ orders ∷ pos shown ∷ []) ⌝ }
+{
+    if is_level(characters) {
+        if price == 0 {
+            return Says::LevelWithoutPrice {
+                size,
+                level,
+                order_count: orders,
+                shown,
+            };
+        }
+        return Says::Level {
+            entry_price: price,
+            size,
+            level,
+            order_count: orders,
+            shown,
+        };
+    }
+    if is_price(characters) {
+        return Says::Price { entry_price: price };
+    }
+    if characters == XE {
+        return limit(price, NO_UPPER_LIMIT);
+    }
+    if characters == XF {
+        return limit(price, NO_LOWER_LIMIT);
+    }
+    if characters == XG {
+        return Says::Size { size };
+    }
+    if is_both(characters) {
+        return Says::Both {
+            entry_price: price,
+            size,
+        };
+    }
+    Says::Unknown
+}
+
+// What an entry of an index says.
+fn said_in_index(characters: u16, price: i64) -> Says
+    ensures { λ r. ⌜ paperSays r ≡ saysIn ofIndex characters (pos characters ∷ price ∷ []) ⌝ }
+{
+    if is_index_price(characters) {
+        Says::Price { entry_price: price }
+    } else {
+        Says::Unknown
+    }
+}
+
+// The entry of a snapshot, and of an index, that some bytes start with.
+fn snapshot_entry(e: &[u8]) -> Entry
+    ensures { λ r. ⌜ paperEntry r ≡ entryAt ofSnapshot (now (e .entry)) 0 ⌝ }
+{
+    let characters = wire::be2(e, 0);
+    let says = said(
+        characters,
+        wire::i64_at(e, 2),
+        wire::i64_at(e, 10),
+        wire::be2(e, 18),
+        wire::i64_at(e, 20),
+        wire::be4(e, 28),
+    );
+    Entry { characters, says }
+}
+
+fn index_entry(e: &[u8]) -> Entry
+    ensures { λ r. ⌜ paperEntry r ≡ entryAt ofIndex (now (e .entry)) 0 ⌝ }
+{
+    let characters = wire::be2(e, 0);
+    let says = said_in_index(characters, wire::i64_at(e, 2));
+    Entry { characters, says }
+}
+
+// The groups that entries are.
+pub(crate) fn groups(e: Entries) -> Groups
+    ensures { λ r. ⌜ meant r ≡ entryGroup (whose e) ⌝ }
+{
+    match e {
+        Entries::OfSnapshot => Groups::SnapshotEntries,
+        Entries::OfIndex => Groups::IndexEntries,
+    }
+}
+
+// The entry at a place that has one.
+pub(crate) fn entry_at(e: Entries, s: &[u8], p: usize) -> Entry
+    requires { ⌜ fit (entryGroup (whose e)) (now s) p 1 ≡ true ⌝ }
+    ensures { λ r. ⌜ paperEntry r ≡ entryAt (whose e) (now (s .entry)) p ⌝ }
+{
+    match e {
+        Entries::OfSnapshot => {
+            let q = p + 32;
+            snapshot_entry(&s[p..q])
+        }
+        Entries::OfIndex => {
+            let q = p + 10;
+            index_entry(&s[p..q])
+        }
+    }
+}
+
+// The place behind an entry and its shown quantities.
+pub(crate) fn behind(e: Entries, s: &[u8], p: usize) -> usize
+    requires { ⌜ fit (entryGroup (whose e)) (now s) p 1 ≡ true ⌝ }
+    ensures { λ r. ⌜ r ≡ next (entryGroup (whose e)) (now (s .entry)) p ⌝ }
+{
+    match e {
+        Entries::OfSnapshot => {
+            let q = p + 32;
+            let e = &s[p..q];
+            q + 8 * (wire::be4(e, 28) as usize)
+        }
+        Entries::OfIndex => p + 10,
+    }
+}
+
+// Quantity j of those that the entry at a place shows.
+fn quantity_at(e: Entries, s: &[u8], p: usize, j: u32) -> AskedQuantity
+    requires { ⌜ fit (entryGroup (whose e)) (now s) p 1 ≡ true ⌝ }
+    ensures { λ r. ⌜ paperQuantity r ≡ accepted (quantityAt (entryGroup (whose e)) (now (s .entry)) p j) ⌝ }
+{
+    match e {
+        Entries::OfSnapshot => {
+            if j < wire::be4(s, p + 28) {
+                AskedQuantity::Found(wire::i64_at(s, p + 32 + 8 * (j as usize)))
+            } else {
+                AskedQuantity::NoSuchEntry
+            }
+        }
+        Entries::OfIndex => AskedQuantity::NoSuchEntry,
+    }
+}
+
+// Where entry i stands, of entries that are all there.
+fn place_of(e: Entries, s: &[u8], i: u32) -> usize
+    requires { ⌜ (fit (entryGroup (whose e)) (now s) 69 (beAt (now s) 65 4) ≡ true) × (i < beAt (now s) 65 4) ⌝ }
+    ensures { λ r. ⌜ (r ≡ place (entryGroup (whose e)) (now (s .entry)) 69 i) × (fit (entryGroup (whose e)) (now (s .entry)) r 1 ≡ true) ⌝ }
+{
+    layout::place(groups(e), s, START, i)
+}
+
+// Entry i of entries that are all there.
+fn entry_in(e: Entries, s: &[u8], i: u32) -> AskedEntry
+    requires { ⌜ fit (entryGroup (whose e)) (now s) 69 (beAt (now s) 65 4) ≡ true ⌝ }
+    ensures { λ r. ⌜ paperAskedEntry r ≡ accepted (entryIn (entries (whose e)) 69 (now (s .entry)) i) ⌝ }
+{
+    if i < wire::be4(s, COUNT) {
+        let p = place_of(e, s, i);
+        AskedEntry::Found(entry_at(e, s, p))
+    } else {
+        AskedEntry::NoSuchEntry
+    }
+}
+
+// Shown quantity j of entry i, of entries that are all there.
+fn quantity_in(e: Entries, s: &[u8], i: u32, j: u32) -> AskedQuantity
+    requires { ⌜ fit (entryGroup (whose e)) (now s) 69 (beAt (now s) 65 4) ≡ true ⌝ }
+    ensures { λ r. ⌜ paperQuantity r ≡ accepted (quantityIn (entries (whose e)) 69 (now (s .entry)) i j) ⌝ }
+{
+    if i < wire::be4(s, COUNT) {
+        let p = place_of(e, s, i);
+        quantity_at(e, s, p, j)
+    } else {
+        AskedQuantity::NoSuchEntry
+    }
+}
+
+// Entry i of a body, from 0, after 4 and 5 for the whole of it.
+pub fn entry_of(kind: u32, body: &[u8], i: u32) -> AskedEntry
+    ensures { λ r. ⌜ paperAskedEntry r ≡ entryAsked kind (now (body .entry)) i ⌝ }
+{
+    match judge(kind, body) {
+        Verdict::Accepted => match kind {
+            Record::SNAPSHOT => entry_in(Entries::OfSnapshot, body, i),
+            Record::INDEX => entry_in(Entries::OfIndex, body, i),
+            _ => AskedEntry::NoSuchEntry,
+        },
+        Verdict::Refused(x) => AskedEntry::Refused(x),
+    }
+}
+
+// Shown quantity j of entry i, each from 0, whatever the entry says: the wire's count decides.
+pub fn quantity_of(kind: u32, body: &[u8], i: u32, j: u32) -> AskedQuantity
+    ensures { λ r. ⌜ paperQuantity r ≡ quantityAsked kind (now (body .entry)) i j ⌝ }
+{
+    match judge(kind, body) {
+        Verdict::Accepted => match kind {
+            Record::SNAPSHOT => quantity_in(Entries::OfSnapshot, body, i, j),
+            Record::INDEX => quantity_in(Entries::OfIndex, body, i, j),
+            _ => AskedQuantity::NoSuchEntry,
+        },
+        Verdict::Refused(x) => AskedQuantity::Refused(x),
+    }
+}
