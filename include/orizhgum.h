@@ -5,12 +5,10 @@
  *
  * The host's part, which no proof covers:
  * - a pointer with a length refers to as many elements as the length says; NULL goes with length 0 only;
- * - an output, and a lent int64_t, is the host's to write, and overlaps none of the inputs of the same call;
- * - a bool holds true or false. */
+ * - an output, and a lent int64_t, is the host's to write, and overlaps none of the inputs of the same call. */
 #ifndef ORIZHGUM_H
 #define ORIZHGUM_H
 
-#include <stdbool.h>
 #include <stddef.h>
 #include <stdint.h>
 
@@ -334,12 +332,12 @@ struct orizhgum_quantity_answer orizhgum_quantity(uint32_t kind, const uint8_t *
 #define ORIZHGUM_CHANNELS 8
 #define ORIZHGUM_RUNS 32
 
-/* run r of the channel at place c stands at place ORIZHGUM_RUNS * c + r of first and last */
+/* an ended mark is 0 or 1; run r of the channel at place c stands at place ORIZHGUM_RUNS * c + r of first and last */
 struct orizhgum_tracker {
     size_t count;
     uint16_t numbers[ORIZHGUM_CHANNELS];
     uint64_t highest[ORIZHGUM_CHANNELS];
-    bool ended[ORIZHGUM_CHANNELS];
+    uint8_t ended[ORIZHGUM_CHANNELS];
     size_t counts[ORIZHGUM_CHANNELS];
     uint64_t first[ORIZHGUM_CHANNELS * ORIZHGUM_RUNS];
     uint64_t last[ORIZHGUM_CHANNELS * ORIZHGUM_RUNS];
@@ -361,8 +359,8 @@ struct orizhgum_start_answer orizhgum_set_up(const uint16_t *channels, size_t le
 /* 0 where the number is new, ORIZHGUM_LATE where it was missing, ORIZHGUM_DUPLICATE where it had come */
 struct orizhgum_arrival_answer orizhgum_tick(struct orizhgum_tracker tracker, uint16_t channel, int64_t number);
 
-/* a channel heartbeat with the channel's last number; always 0 where it is not refused */
-struct orizhgum_arrival_answer orizhgum_heartbeat(struct orizhgum_tracker tracker, uint16_t channel, int64_t last, bool end);
+/* a channel heartbeat with the channel's last number; end 0 is no, anything else yes; always 0 where it is not refused */
+struct orizhgum_arrival_answer orizhgum_heartbeat(struct orizhgum_tracker tracker, uint16_t channel, int64_t last, uint8_t end);
 
 /* ---- the writer: a frame to the start of out, with texts and groups as bytes in wire layout.
  * A type without texts, or without groups, takes none of them. */

@@ -1,6 +1,8 @@
 -- What the C interface answers of the tracker.
 -- Assumes nothing.
 use Prim.Native.Nat.{ℕ}
+use mathlib.Core.Bool.{Bool, not}
+use lib.Dec.{eqb}
 use Rattle.wire.specs.Answer.{Answer, accepted, refused}
 use Rattle.gaps.specs.Channel.{Said, new, late, duplicate, heard}
 use Rattle.tracker.specs.SetUp.{Ready}
@@ -20,6 +22,10 @@ saidNumber (refused n vs) = n
 -- the set-up's answer, and the tracker
 abbrev pub startAnswer : Ready → StartAnswer
 startAnswer r = record { answer = answerNumber (r .said); tracker = r .tracker }
+
+-- an end as a byte: 0 is no, anything else yes
+abbrev pub ending : ℕ → Bool
+ending e = not (eqb e 0)
 
 -- an arrival's answer, and the next tracker
 abbrev pub arrivalAnswer : Outcome → ArrivalAnswer

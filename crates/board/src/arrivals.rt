@@ -3,7 +3,7 @@ ghost use mathlib.Core.Path.{_≡_};
 ghost use Rattle.gaps.specs.Channel.{tick, heartbeat};
 ghost use Rattle.tracker.specs.SetUp.{setUp};
 ghost use Rattle.tracker.specs.Arrived.{on, arrived, saidOf};
-ghost use Rattle.board.specs.Arrivals.{saidNumber, startAnswer, arrivalAnswer};
+ghost use Rattle.board.specs.Arrivals.{saidNumber, startAnswer, arrivalAnswer, ending};
 use crate::answers::DUPLICATE;
 use crate::answers::LATE;
 use crate::answers::PLAIN;
@@ -79,11 +79,11 @@ pub extern "C" fn orizhgum_heartbeat(
     tracker: Tracker,
     channel: u16,
     last: i64,
-    end: bool,
+    end: u8,
 ) -> ArrivalAnswer
-    ensures { λ r. ⌜ r ≡ arrivalAnswer (arrived tracker (on channel (heartbeat last end))) ⌝ }
+    ensures { λ r. ⌜ r ≡ arrivalAnswer (arrived tracker (on channel (heartbeat last (ending end)))) ⌝ }
 {
-    let r = tracker.heartbeat(channel, last, end);
+    let r = tracker.heartbeat(channel, last, end != 0);
     let verdict = r.verdict;
     let next = r.next;
     ArrivalAnswer {

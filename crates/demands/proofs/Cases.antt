@@ -11,13 +11,13 @@ use Rattle.record.specs.Record.{readAs, reading, frameReading}
 use Rattle.gaps.specs.Gaps.{larger, has, cut, cutAll, grow, fill, canon}
 use Rattle.gaps.specs.Channel as channel
 use Rattle.tracker.specs.Places.{span, put}
-use Rattle.tracker.specs.Rules.{allZero, soundRow, soundRows, blank, sound, wellFormed}
+use Rattle.tracker.specs.Rules.{allZero, soundRow, soundRows, marks, blank, sound, wellFormed}
 use Rattle.tracker.specs.SetUp.{ascends, setUp}
 use Rattle.tracker.specs.Arrived.{placeFrom, place, arrived}
 use Rattle.demands.specs.Cases.{Each, done, _and_, cases}
 
 pub cases-hold : Each cases
-unfolding framing guard beAt frameReading reading readAs named judged size fit ranges groupRanges ranged values texts larger has cut cutAll grow fill canon channel.ticked channel.announced channel.judged span put allZero soundRow soundRows blank sound wellFormed ascends setUp placeFrom place arrived
+unfolding framing guard beAt frameReading reading readAs named judged size fit ranges groupRanges ranged values texts larger has cut cutAll grow fill canon channel.ticked channel.announced channel.judged span put allZero soundRow soundRows marks blank sound wellFormed ascends setUp placeFrom place arrived
 cases-hold =
     refl and refl and refl and refl and refl and refl and refl and refl and refl and refl and refl and refl and refl and refl
     and refl and refl and refl and refl and refl and refl and refl and refl

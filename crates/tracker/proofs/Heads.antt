@@ -1,14 +1,16 @@
 -- One more channel of a walk over the heads.
-use Prim.Native.Nat.{ℕ, suc, _+_, _*_, _-_, _≤_, _<_}
+use Prim.Native.Nat.{ℕ, zero, suc, _+_, _*_, _-_, _≤_, _<_}
 use native.Mathlib.Omega.{arith}
 use native.Mathlib.Numerals.{add-one}
-use mathlib.Core.Path.{_≡_}
+use mathlib.Core.Path.{_≡_, refl}
 use mathlib.Core.List.{List}
-use mathlib.Core.Bool.{Bool, true, false, not, cond, _&&_}
+use mathlib.Core.Bool.{Bool, true, false, cond, _&&_, and-assoc, and-true}
 use lib.Dec.{leb, eqb}
+use lib.Bits.{bitOr, or-add-and, or-lt, and-le-l, and-le-r}
 use lib.ListN.{getD}
-use borrow.Author.Tests.{le-leb, lt-leb, eq-eqb, ne-eqb}
-use Rattle.tracker.specs.Rules.{soundRow, soundRows, blank}
+use borrow.Author.Tests.{le-leb, lt-leb, leb-true, leb-false, eq-eqb, ne-eqb}
+use Rattle.gaps.proofs.Numbers.{and-split}
+use Rattle.tracker.specs.Rules.{soundRow, soundRows, marks, blank}
 use Rattle.tracker.specs.Arrived.{placeFrom}
 
 module _ (ns hs cs f l : List ℕ) (lo i to : ℕ) where
@@ -31,9 +33,43 @@ module _ (ns hs cs f l : List ℕ) (lo i to : ℕ) where
   unfolding soundRows
   rows-end h = let e : to - i ≡ 0 = omega arith in rw e
 
-module _ (ns hs : List ℕ) (es : List Bool) (cs : List ℕ) (i to : ℕ) where
+-- ---- the ended marks
+
+-- an or is a mark where both are
+leb-or : (a b : ℕ) → leb (bitOr a b) 1 ≡ (leb a 1 && leb b 1)
+leb-or a b = go (leb a 1) refl (leb b 1) refl
+  where
+    go : (x : Bool) → leb a 1 ≡ x → (y : Bool) → leb b 1 ≡ y → leb (bitOr a b) 1 ≡ (leb a 1 && leb b 1)
+    go true p true q =
+        let h : bitOr a b < 2 = or-lt 1 a b (omega (arith, leb-true a 1 p)) (omega (arith, leb-true b 1 q)) in
+        rw (p, q) (le-leb (bitOr a b) 1 (omega arith))
+    go true p false q = rw (p, q) (lt-leb (bitOr a b) 1 (omega (arith, leb-false b 1 q, or-add-and a b, and-le-l a b)))
+    go false p y q = rw p (lt-leb (bitOr a b) 1 (omega (arith, leb-false a 1 p, or-add-and a b, and-le-r a b)))
+
+module _ (es : List ℕ) (i to bits : ℕ) where
+  pub marks-more : i < to → (leb bits 1 && marks es i (to - i)) ≡ (leb (bitOr bits (getD es i 0)) 1 && marks es (i + 1) (to - (i + 1)))
+  unfolding marks
+  marks-more h =
+      let e : to - i ≡ suc (to - (i + 1)) = omega arith in
+      rw (e, add-one i, leb-or bits (getD es i 0), and-assoc (leb bits 1) (leb (getD es i 0) 1) (marks es (suc i) (to - suc i)))
+
+  pub marks-end : to ≤ i → (leb bits 1 && marks es i (to - i)) ≡ leb bits 1
+  unfolding marks
+  marks-end h = let e : to - i ≡ 0 = omega arith in rw e (and-true (leb bits 1))
+
+pub marks-at : (es : List ℕ) (i n j : ℕ) → marks es i n ≡ true → j < n → getD es (i + j) 0 ≤ 1
+unfolding marks
+marks-at es i zero j e h = absurd (omega arith)
+marks-at es i (suc n) zero e h = let g : i + 0 ≡ i = omega arith in rw g (leb-true (getD es i 0) 1 (and-split (leb (getD es i 0) 1) _ e .0))
+marks-at es i (suc n) (suc j) e h =
+    let g : i + suc j ≡ suc i + j = omega arith in
+    rw g (marks-at es (suc i) n j (and-split (leb (getD es i 0) 1) _ e .1) (omega arith))
+
+-- ---- places without a channel
+
+module _ (ns hs es cs : List ℕ) (i to : ℕ) where
   blank-more : i < to → blank ns hs es cs i (to - i) ≡
-      (eqb (getD ns i 0) 0 && (eqb (getD hs i 0) 0 && (not (getD es i false) && (eqb (getD cs i 0) 0 && blank ns hs es cs (i + 1) (to - (i + 1))))))
+      (eqb (getD ns i 0) 0 && (eqb (getD hs i 0) 0 && (eqb (getD es i 0) 0 && (eqb (getD cs i 0) 0 && blank ns hs es cs (i + 1) (to - (i + 1))))))
   unfolding blank
   blank-more h = let e : to - i ≡ suc (to - (i + 1)) = omega arith in rw (e, add-one)
 
@@ -43,15 +79,15 @@ module _ (ns hs : List ℕ) (es : List Bool) (cs : List ℕ) (i to : ℕ) where
   pub blank-highest : i < to → getD ns i 0 ≡ 0 → (getD hs i 0 ≡ 0 → ⊥) → blank ns hs es cs i (to - i) ≡ false
   blank-highest h p q = rw (blank-more h, eq-eqb (getD ns i 0) 0 p, ne-eqb (getD hs i 0) 0 q)
 
-  pub blank-ended : i < to → getD ns i 0 ≡ 0 → getD hs i 0 ≡ 0 → getD es i false ≡ true → blank ns hs es cs i (to - i) ≡ false
-  blank-ended h p q s = rw (blank-more h, eq-eqb (getD ns i 0) 0 p, eq-eqb (getD hs i 0) 0 q, s)
+  pub blank-ended : i < to → getD ns i 0 ≡ 0 → getD hs i 0 ≡ 0 → (getD es i 0 ≡ 0 → ⊥) → blank ns hs es cs i (to - i) ≡ false
+  blank-ended h p q s = rw (blank-more h, eq-eqb (getD ns i 0) 0 p, eq-eqb (getD hs i 0) 0 q, ne-eqb (getD es i 0) 0 s)
 
-  pub blank-count : i < to → getD ns i 0 ≡ 0 → getD hs i 0 ≡ 0 → getD es i false ≡ false → (getD cs i 0 ≡ 0 → ⊥) → blank ns hs es cs i (to - i) ≡ false
-  blank-count h p q s t = rw (blank-more h, eq-eqb (getD ns i 0) 0 p, eq-eqb (getD hs i 0) 0 q, s, ne-eqb (getD cs i 0) 0 t)
+  pub blank-count : i < to → getD ns i 0 ≡ 0 → getD hs i 0 ≡ 0 → getD es i 0 ≡ 0 → (getD cs i 0 ≡ 0 → ⊥) → blank ns hs es cs i (to - i) ≡ false
+  blank-count h p q s t = rw (blank-more h, eq-eqb (getD ns i 0) 0 p, eq-eqb (getD hs i 0) 0 q, eq-eqb (getD es i 0) 0 s, ne-eqb (getD cs i 0) 0 t)
 
-  pub blank-pass : i < to → getD ns i 0 ≡ 0 → getD hs i 0 ≡ 0 → getD es i false ≡ false → getD cs i 0 ≡ 0 →
+  pub blank-pass : i < to → getD ns i 0 ≡ 0 → getD hs i 0 ≡ 0 → getD es i 0 ≡ 0 → getD cs i 0 ≡ 0 →
       blank ns hs es cs i (to - i) ≡ blank ns hs es cs (i + 1) (to - (i + 1))
-  blank-pass h p q s t = rw (blank-more h, eq-eqb (getD ns i 0) 0 p, eq-eqb (getD hs i 0) 0 q, s, eq-eqb (getD cs i 0) 0 t)
+  blank-pass h p q s t = rw (blank-more h, eq-eqb (getD ns i 0) 0 p, eq-eqb (getD hs i 0) 0 q, eq-eqb (getD es i 0) 0 s, eq-eqb (getD cs i 0) 0 t)
 
   pub blank-end : to ≤ i → blank ns hs es cs i (to - i) ≡ true
   unfolding blank

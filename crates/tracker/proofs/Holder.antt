@@ -4,7 +4,7 @@ use native.Mathlib.Omega.{arith}
 use mathlib.Core.Path.{_≡_, refl, ap, sym, _∙_}
 use mathlib.Core.List.{List, [], _∷_, _++_, append-assoc, map}
 use mathlib.Core.Bool.{Bool, true, false}
-use lib.Dec.{leb}
+use lib.Dec.{leb, eqb}
 use lib.ListN.{length, take, drop, getD, set, replicate, length-append, length-replicate, length-map, length-set, List·getD-append, List·getD-map, replicate-append-replicate}
 use lib.Seq.{sets, sets-eq, set-append-left, take-at, drop-at, drop-cons}
 use borrow.Author.Tests.{le-leb, ne-eqb}
@@ -15,8 +15,8 @@ use Rattle.gaps.specs.Channel.{Channel, fresh}
 use Rattle.gaps.specs.Built.{firsts, lasts, padded}
 use Rattle.gaps.proofs.Numbers.{and-split}
 use Rattle.tracker.specs.declared.Tracker.{Tracker}
-use Rattle.tracker.specs.Places.{span, channel, put}
-use Rattle.tracker.specs.Rules.{allZero, soundRow, soundRows, blank, sound, wellFormed}
+use Rattle.tracker.specs.Places.{span, mark, channel, put}
+use Rattle.tracker.specs.Rules.{allZero, soundRow, soundRows, marks, blank, sound, wellFormed}
 use Rattle.tracker.specs.SetUp.{ascends, blankOf}
 use Rattle.tracker.proofs.Row.{cells, cells-add, cells-length}
 
@@ -78,8 +78,8 @@ rows g (c ∷ cs) = padded 32 (g (c .runs)) ++ rows g cs
 abbrev highs : List Channel → List ℕ
 highs cs = map (λ (c : Channel). c .highest) cs
 
-abbrev marks : List Channel → List Bool
-marks cs = map (λ (c : Channel). c .ended) cs
+abbrev endings : List Channel → List ℕ
+endings cs = map (λ (c : Channel). mark (c .ended)) cs
 
 abbrev sizes : List Channel → List ℕ
 sizes cs = map (λ (c : Channel). length (c .runs)) cs
@@ -90,7 +90,7 @@ holder ns cs =
       count = length ns;
       numbers = padded 8 ns;
       highest = padded 8 (highs cs);
-      ended = marks cs ++ replicate (8 - length (marks cs)) false;
+      ended = padded 8 (endings cs);
       counts = padded 8 (sizes cs);
       first = rows firsts cs ++ replicate (256 - length cs * 32) 0;
       last = rows lasts cs ++ replicate (256 - length cs * 32) 0;
@@ -170,7 +170,7 @@ holder-put ns cs i c w h g =
     let z = replicate {A = ℕ} (256 - length cs * 32) 0 in
     let n = length-set cs i c in
     let a = set-append-left (highs cs) (replicate {A = ℕ} (8 - length (highs cs)) 0) i (c .highest) (rw (length-map cs (λ (d : Channel). d .highest)) h) in
-    let b = set-append-left (marks cs) (replicate (8 - length (marks cs)) false) i (c .ended) (rw (length-map cs (λ (d : Channel). d .ended)) h) in
+    let b = set-append-left (endings cs) (replicate {A = ℕ} (8 - length (endings cs)) 0) i (mark (c .ended)) (rw (length-map cs (λ (d : Channel). mark (d .ended))) h) in
     let d = set-append-left (sizes cs) (replicate {A = ℕ} (8 - length (sizes cs)) 0) i (length (c .runs)) (rw (length-map cs (λ (d : Channel). length (d .runs))) h) in
     rw (
       a,
@@ -179,10 +179,10 @@ holder-put ns cs i c w h g =
       rows-put firsts firsts-length cs i c z w h (g .small),
       rows-put lasts lasts-length cs i c z w h (g .small),
       map-set (λ (d : Channel). d .highest) cs i c,
-      map-set (λ (d : Channel). d .ended) cs i c,
+      map-set (λ (d : Channel). mark (d .ended)) cs i c,
       map-set (λ (d : Channel). length (d .runs)) cs i c,
       length-set (highs cs) i (c .highest),
-      length-set (marks cs) i (c .ended),
+      length-set (endings cs) i (mark (c .ended)),
       length-set (sizes cs) i (length (c .runs)),
       n,
     )
@@ -250,10 +250,16 @@ module _ (ns : List ℕ) (cs : List Channel) (w : AllGood cs) where
       List·getD-append (sizes cs) (replicate (8 - length (sizes cs)) 0) 0 i (rw (length-map cs (λ (d : Channel). length (d .runs))) h)
       ∙ List·getD-map (λ (d : Channel). length (d .runs)) cs i (fresh 1)
 
-  mark-at : (i : ℕ) → i < length cs → getD (holder ns cs .ended) i false ≡ at cs i .ended
+  mark-at : (i : ℕ) → i < length cs → eqb (getD (holder ns cs .ended) i 0) 1 ≡ at cs i .ended
   mark-at i h =
-      List·getD-append (marks cs) (replicate (8 - length (marks cs)) false) false i (rw (length-map cs (λ (d : Channel). d .ended)) h)
-      ∙ List·getD-map (λ (d : Channel). d .ended) cs i (fresh 1)
+      ap (λ (e : ℕ). eqb e 1)
+      (List·getD-append (endings cs) (replicate (8 - length (endings cs)) 0) 0 i (rw (length-map cs (λ (d : Channel). mark (d .ended))) h)
+      ∙ List·getD-map (λ (d : Channel). mark (d .ended)) cs i (fresh 1))
+      ∙ read (at cs i .ended)
+    where
+      read : (e : Bool) → eqb (mark e) 1 ≡ e
+      read true = refl
+      read false = refl
 
   first-row : (i : ℕ) → i < length cs → cells (holder ns cs .first) (i * 32) 32 ≡ padded 32 (firsts (at cs i .runs))
   first-row i h = rows-cells firsts firsts-length cs i (replicate (256 - length cs * 32) 0) w h
@@ -284,8 +290,22 @@ rows-true ms hs ks f l ns lo i (suc n) e a p q =
     let b = and-split (leb lo (getD ns i 0)) _ (rw (drop-cons ns i 0 h) at a) in
     rw (p i h, b .0, q i h) (rows-true ms hs ks f l ns (getD ns i 0 + 1) (suc i) n (omega arith) (b .1) p q)
 
-blank-true : (ms hs : List ℕ) (es : List Bool) (ks : List ℕ) (i n : ℕ) → ((j : ℕ) → i ≤ j → getD ms j 0 ≡ 0) → ((j : ℕ) → i ≤ j → getD hs j 0 ≡ 0) →
-    ((j : ℕ) → i ≤ j → getD es j false ≡ false) → ((j : ℕ) → i ≤ j → getD ks j 0 ≡ 0) → blank ms hs es ks i n ≡ true
+ending-mark : (cs : List Channel) (n i : ℕ) → getD (endings cs ++ replicate n 0) i 0 ≤ 1
+ending-mark [] n i = rw (getD-pad {A = ℕ} [] n i 0 (omega arith)) (omega arith)
+ending-mark (c ∷ cs) n zero = go (c .ended)
+  where
+    go : (e : Bool) → mark e ≤ 1
+    go true = omega arith
+    go false = omega arith
+ending-mark (c ∷ cs) n (suc i) = ending-mark cs n i
+
+marks-true : (es : List ℕ) (i n : ℕ) → ((j : ℕ) → getD es j 0 ≤ 1) → marks es i n ≡ true
+unfolding marks
+marks-true es i zero h = refl
+marks-true es i (suc n) h = rw (le-leb (getD es i 0) 1 (h i)) (marks-true es (suc i) n h)
+
+blank-true : (ms hs es ks : List ℕ) (i n : ℕ) → ((j : ℕ) → i ≤ j → getD ms j 0 ≡ 0) → ((j : ℕ) → i ≤ j → getD hs j 0 ≡ 0) →
+    ((j : ℕ) → i ≤ j → getD es j 0 ≡ 0) → ((j : ℕ) → i ≤ j → getD ks j 0 ≡ 0) → blank ms hs es ks i n ≡ true
 unfolding blank
 blank-true ms hs es ks i zero p q r s = refl
 blank-true ms hs es ks i (suc n) p q r s =
@@ -310,12 +330,12 @@ holder-well ns cs o e w =
     let b = blank-true (t .numbers) (t .highest) (t .ended) (t .counts) n (8 - n)
     (λ j h. getD-pad ns (8 - length ns) j 0 h)
     (λ j h. getD-pad (highs cs) (8 - length (highs cs)) j 0 (omega (arith, length-map cs (λ (c : Channel). c .highest))))
-    (λ j h. getD-pad (marks cs) (8 - length (marks cs)) j false (omega (arith, length-map cs (λ (c : Channel). c .ended))))
+    (λ j h. getD-pad (endings cs) (8 - length (endings cs)) j 0 (omega (arith, length-map cs (λ (c : Channel). mark (c .ended)))))
     (λ j h. getD-pad (sizes cs) (8 - length (sizes cs)) j 0 (omega (arith, length-map cs (λ (c : Channel). length (c .runs))))) in
     let z = zeros-pass (t .first) (t .last) (length cs * 32) (256 - length cs * 32)
     (rows-behind firsts firsts-length cs (256 - length cs * 32) w)
     (rows-behind lasts lasts-length cs (256 - length cs * 32) w) in
-    rw (ne-eqb n 0 (omega (arith, o .some)), le-leb n 8 (o .most), r, b, d, z)
+    rw (ne-eqb n 0 (omega (arith, o .some)), le-leb n 8 (o .most), r, marks-true (t .ended) 0 8 (ending-mark cs (8 - length (endings cs))), b, d, z)
 
 -- ---- the tracker that a set-up gives
 
@@ -349,12 +369,11 @@ holder-start ns h =
     let z : replicate (n * 32) 0 ++ replicate (256 - n * 32) 0 ≡ replicate {A = ℕ} 256 0 = replicate-append-replicate {A = ℕ} (n * 32) (256 - n * 32) 0 ∙ ap (λ (m : ℕ). replicate m 0) e in
     rw (
       map-replicate (λ (c : Channel). c .highest) n (fresh 1),
-      map-replicate (λ (c : Channel). c .ended) n (fresh 1),
+      map-replicate (λ (c : Channel). mark (c .ended)) n (fresh 1),
       map-replicate (λ (c : Channel). length (c .runs)) n (fresh 1),
       rows-start firsts refl n,
       rows-start lasts refl n,
       length-replicate n (fresh 1),
       pad-zeros {A = ℕ} n 8 0 h,
-      pad-zeros n 8 false h,
       z,
     )

@@ -26,7 +26,7 @@ use Rattle.gaps.proofs.Exact.{ticked-new, ticked-late, ticked-again}
 use Rattle.gaps.proofs.Alone.{judged-low}
 use Rattle.tracker.specs.declared.Tracker.{Tracker}
 use Rattle.tracker.specs.declared.Gap.{Gap}
-use Rattle.tracker.specs.Places.{channel, put}
+use Rattle.tracker.specs.Places.{mark, channel, put}
 use Rattle.tracker.specs.declared.Seat.{Seat}
 use Rattle.tracker.specs.declared.Seat.the-variants.{At}
 use Rattle.tracker.specs.Arrived.{on, settled, arrived}
@@ -37,7 +37,7 @@ use Rattle.tracker.proofs.Row.{span-length, span-at}
 use Rattle.tracker.proofs.Hold.{held-at}
 use Rattle.tracker.proofs.Signed.{natural-one, natural-pos}
 use Rattle.tracker.proofs.Seated.{seatIn, seat-at}
-use Rattle.tracker.proofs.Put.{RowOf, mended, put-pushed, put-set, put-runs, put-same, kept-within}
+use Rattle.tracker.proofs.Put.{RowOf, mended, mark-same, put-pushed, put-set, put-runs, put-same, kept-within}
 
 -- the tracker with another run at one place
 abbrev pub replaced : Tracker → ℕ → ℕ → ℕ → Tracker
@@ -124,7 +124,7 @@ module _ (t : Tracker) (i : ℕ) (w : RowOf t i) where
         }
     tick-next h =
         ahead (omega arith)
-        ∙ rw (fill-none (channel t i .runs) (channel t i .highest) (n - 1) (omega arith), stored-fits t i (accepted new) n (channel t i .ended) (channel t i .runs) runs-fit, put-runs t i w n (channel t i .ended), set-getD (t .ended) i false)
+        ∙ rw (fill-none (channel t i .runs) (channel t i .highest) (n - 1) (omega arith), stored-fits t i (accepted new) n (channel t i .ended) (channel t i .runs) runs-fit, put-runs t i w n (channel t i .ended), mark-same (t .ended) i (w .mark))
 
     pub tick-ahead : getD (t .highest) i 0 < n - 1 → settled t i (judged (channel t i) (tick (pos n))) ≡
         stored t i (accepted new) n (channel t i .ended) (grow (channel t i .runs) (channel t i .highest) (n - 1))
@@ -157,7 +157,7 @@ module _ (t : Tracker) (i : ℕ) (w : RowOf t i) where
             count = t .count;
             numbers = t .numbers;
             highest = t .highest;
-            ended = set (t .ended) i (channel t i .ended || end);
+            ended = set (t .ended) i (mark (channel t i .ended || end));
             counts = t .counts;
             first = t .first;
             last = t .last;
@@ -213,7 +213,7 @@ module _ (t : Tracker) (i n j : ℕ) (x : Run) (w : RowOf t i) (m : j < getD (t 
         stored-fits t i (accepted late) (channel t i .highest) (channel t i .ended) (set l j x) (rw (length-set l j x, s) (w .room)),
         put-set t i w (channel t i .highest) (channel t i .ended) j x m,
         set-getD (t .highest) i 0,
-        set-getD (t .ended) i false,
+        mark-same (t .ended) i (w .mark),
         set-getD (t .counts) i 0,
       )
 
@@ -227,7 +227,7 @@ module _ (t : Tracker) (i : ℕ) (a : Answer Said) (l : List Run) (b : Runs) (q 
   pub built-full : (h : ℕ) (e : Bool) → b .full ≡ true → stored t i a h e l ≡ record { said = refused tableFull []; next = t }
   built-full h e p = stored-full t i a h e l (ltb-true 32 (length l) (sym (full-is l b q) ∙ p))
 
-  pub built-fits : (f k : List ℕ) → b .full ≡ false → f ≡ sets (t .first) (i * 32) (b .first) → k ≡ sets (t .last) (i * 32) (b .last) →
+  pub built-fits : getD (t .ended) i 0 ≤ 1 → (f k : List ℕ) → b .full ≡ false → f ≡ sets (t .first) (i * 32) (b .first) → k ≡ sets (t .last) (i * 32) (b .last) →
       stored t i a (channel t i .highest) (channel t i .ended) l ≡
       record {
         said = a;
@@ -242,10 +242,10 @@ module _ (t : Tracker) (i : ℕ) (a : Answer Said) (l : List Run) (b : Runs) (q 
         };
       }
   unfolding put
-  built-fits f k p x y =
+  built-fits m f k p x y =
       let n : length l ≤ 32 = ltb-false 32 (length l) (sym (full-is l b q) ∙ p) in
       stored-fits t i a (channel t i .highest) (channel t i .ended) l n
-      ∙ rw (x, y, q, packed-fits l n, set-getD (t .highest) i 0, set-getD (t .ended) i false)
+      ∙ rw (x, y, q, packed-fits l n, set-getD (t .highest) i 0, mark-same (t .ended) i m)
 
 -- ---- a number that is not above the highest, by what the search found
 

@@ -4,7 +4,7 @@ use native.Mathlib.Omega.{arith}
 use mathlib.Core.Path.{_≡_, refl, ap, _∙_}
 use mathlib.Core.List.{List, [], _∷_, _++_, map}
 use mathlib.Core.Bool.{Bool, true, false}
-use lib.Dec.{leb}
+use lib.Dec.{leb, eqb}
 use lib.ListN.{length, take, getD, set, replicate, length-append, length-set}
 use lib.Seq.{set-getD}
 use borrow.Author.Tests.{leb-true}
@@ -16,35 +16,47 @@ use Rattle.gaps.specs.Built.{firsts, lasts, padded}
 use Rattle.gaps.proofs.Numbers.{and-split}
 use Rattle.gaps.proofs.Pack.{map-append}
 use Rattle.tracker.specs.declared.Tracker.{Tracker}
-use Rattle.tracker.specs.Places.{span, channel, put}
+use Rattle.tracker.specs.Places.{span, mark, channel, put}
 use Rattle.tracker.specs.Rules.{soundRow}
 use Rattle.tracker.specs.Inside.{Kept}
 use Rattle.tracker.proofs.Row.{cells, sets-same, sets-set, pad-row, pad-push, pad-set, span-firsts, span-lasts, span-length, span-take, zero-places}
 
 -- ---- what a row within the rules tells
 
--- n runs from place b on, up to h, are within the rules
-pub record Within (h n : ℕ) (f l : List ℕ) (b : ℕ) : Type 0 where
+-- n runs from place b on, up to h, and a mark are within the rules
+pub record Within (h e n : ℕ) (f l : List ℕ) (b : ℕ) : Type 0 where
+  pub mark : e ≤ 1
   pub room : n ≤ 32
   pub high : h ≤ mostNumber
   pub order : canon 1 h (span f l b n) ≡ true
   pub firsts-zero : cells f (b + n) (32 - n) ≡ replicate (32 - n) 0
   pub lasts-zero : cells l (b + n) (32 - n) ≡ replicate (32 - n) 0
 
-pub row-within : (h n : ℕ) (f l : List ℕ) (b : ℕ) → soundRow h n f l b ≡ true → Within h n f l b
+pub row-within : (h e n : ℕ) (f l : List ℕ) (b : ℕ) → e ≤ 1 → soundRow h n f l b ≡ true → Within h e n f l b
 unfolding soundRow
-row-within h n f l b e =
-    let p = and-split (leb n 32) _ e in
+row-within h e n f l b m s =
+    let p = and-split (leb n 32) _ s in
     let q = and-split (leb h mostNumber) _ (p .1) in
     let r = and-split (canon 1 h (span f l b n)) _ (q .1) in
     let z = zero-places f l (b + n) (32 - n) (r .1) in
-    record { room = leb-true n 32 (p .0); high = leb-true h mostNumber (q .0); order = r .0; firsts-zero = z .0; lasts-zero = z .1 }
+    record { mark = m; room = leb-true n 32 (p .0); high = leb-true h mostNumber (q .0); order = r .0; firsts-zero = z .0; lasts-zero = z .1 }
 
 abbrev pub RowOf : Tracker → ℕ → Type 0
-RowOf t i = Within (getD (t .highest) i 0) (getD (t .counts) i 0) (t .first) (t .last) (i * 32)
+RowOf t i = Within (getD (t .highest) i 0) (getD (t .ended) i 0) (getD (t .counts) i 0) (t .first) (t .last) (i * 32)
 
 pub kept-within : (t : Tracker) (i : ℕ) → Kept t i → RowOf t i
-kept-within t i k = row-within (getD (t .highest) i 0) (getD (t .counts) i 0) (t .first) (t .last) (i * 32) (k .row)
+kept-within t i k = row-within (getD (t .highest) i 0) (getD (t .ended) i 0) (getD (t .counts) i 0) (t .first) (t .last) (i * 32) (k .mark) (k .row)
+
+-- ---- the ended mark
+
+-- a mark that is read and put back
+pub mark-same : (es : List ℕ) (i : ℕ) → getD es i 0 ≤ 1 → set es i (mark (eqb (getD es i 0) 1)) ≡ es
+mark-same es i h = rw (go (getD es i 0) h) (set-getD es i 0)
+  where
+    go : (n : ℕ) → n ≤ 1 → mark (eqb n 1) ≡ n
+    go zero h = refl
+    go (suc zero) h = refl
+    go (suc (suc n)) h = absurd (omega arith)
 
 -- ---- one place of the row
 
@@ -55,7 +67,7 @@ mended t i highest ended count p x =
       count = t .count;
       numbers = t .numbers;
       highest = set (t .highest) i highest;
-      ended = set (t .ended) i ended;
+      ended = set (t .ended) i (mark ended);
       counts = set (t .counts) i count;
       first = set (t .first) p (x .first);
       last = set (t .last) p (x .last);
@@ -127,7 +139,7 @@ module _ (t : Tracker) (i : ℕ) (w : RowOf t i) where
         count = t .count;
         numbers = t .numbers;
         highest = set (t .highest) i h;
-        ended = set (t .ended) i e;
+        ended = set (t .ended) i (mark e);
         counts = t .counts;
         first = t .first;
         last = t .last;
@@ -149,4 +161,4 @@ module _ (t : Tracker) (i : ℕ) (w : RowOf t i) where
       )
 
   pub put-same : put t i (channel t i) ≡ t
-  put-same = put-runs (getD (t .highest) i 0) (getD (t .ended) i false) ∙ rw (set-getD (t .highest) i 0, set-getD (t .ended) i false)
+  put-same = put-runs (getD (t .highest) i 0) (channel t i .ended) ∙ rw (set-getD (t .highest) i 0, mark-same (t .ended) i (w .mark))

@@ -15,9 +15,10 @@ use Rattle.tracker.specs.declared.Tracker.{Tracker}
 use Rattle.tracker.specs.declared.Seat.{Seat}
 use Rattle.tracker.specs.declared.Seat.the-variants.{Malformed, NotInTracker, At}
 use Rattle.tracker.specs.Places.{channel}
-use Rattle.tracker.specs.Rules.{soundRow, soundRows, sound, wellFormed}
+use Rattle.tracker.specs.Rules.{soundRow, soundRows, marks, sound, wellFormed}
 use Rattle.tracker.specs.Arrived.{on, place, settled, arrived}
 use Rattle.tracker.specs.Inside.{Kept, seatOf}
+use Rattle.tracker.proofs.Heads.{marks-at}
 
 rows-at : (ns hs cs f l : List ℕ) (lo i n j : ℕ) → soundRows ns hs cs f l lo i n ≡ true → j < n →
     soundRow (getD hs (i + j) 0) (getD cs (i + j) 0) f l ((i + j) * 32) ≡ true
@@ -30,7 +31,7 @@ rows-at ns hs cs f l lo i (suc n) (suc j) e h =
     let g : i + suc j ≡ suc i + j = omega arith in
     rw g (rows-at ns hs cs f l (getD ns i 0 + 1) (suc i) n j (and-split (soundRow (getD hs i 0) (getD cs i 0) f l (i * 32)) _ (and-split (leb lo (getD ns i 0)) _ e .1) .1) (omega arith))
 
-pub sound-count : (count : ℕ) (ns hs : List ℕ) (es : List Bool) (cs f l : List ℕ) → sound count ns hs es cs f l ≡ true → count ≤ 8
+pub sound-count : (count : ℕ) (ns hs es cs f l : List ℕ) → sound count ns hs es cs f l ≡ true → count ≤ 8
 unfolding sound
 sound-count count ns hs es cs f l e = leb-true count 8 (and-split (leb count 8) _ (and-split (not (eqb count 0)) _ e .1) .0)
 
@@ -42,11 +43,12 @@ module _ (t : Tracker) (e : wellFormed t ≡ true) where
   pub well-row : (i : ℕ) → i < t .count → Kept t i
   unfolding wellFormed sound
   well-row i h =
-      let r = and-split (soundRows (t .numbers) (t .highest) (t .counts) (t .first) (t .last) 0 0 (t .count)) _ (and-split (leb (t .count) 8) _ (and-split (not (eqb (t .count) 0)) _ e .1) .1) .0 in
+      let r = and-split (soundRows (t .numbers) (t .highest) (t .counts) (t .first) (t .last) 0 0 (t .count)) _ (and-split (leb (t .count) 8) _ (and-split (not (eqb (t .count) 0)) _ e .1) .1) in
       let g : 0 + i ≡ i = omega arith in
       record {
         place = omega (arith, well-count);
-        row = rw g at (rows-at (t .numbers) (t .highest) (t .counts) (t .first) (t .last) 0 0 (t .count) i r h);
+        mark = rw g at (marks-at (t .ended) 0 8 i (and-split (marks (t .ended) 0 8) _ (r .1) .0) (omega (arith, well-count)));
+        row = rw g at (rows-at (t .numbers) (t .highest) (t .counts) (t .first) (t .last) 0 0 (t .count) i (r .0) h);
       }
 
 -- ---- the refusals in their order

@@ -22,7 +22,7 @@ use Rattle.tracker.specs.Rules.{soundRow, sound}
 use Rattle.tracker.specs.Arrived.{Outcome, placeFrom}
 
 -- where a channel stands: 10, then 7, then its place
-unfoldable pub seatOf : ℕ → ℕ → List ℕ → List ℕ → List Bool → List ℕ → List ℕ → List ℕ → Seat
+unfoldable pub seatOf : ℕ → ℕ → List ℕ → List ℕ → List ℕ → List ℕ → List ℕ → List ℕ → Seat
 seatOf k count numbers highest ended counts first last =
     cond (sound count numbers highest ended counts first last)
     (cond (ltb (placeFrom numbers k 0 count) count) (At (placeFrom numbers k 0 count)) NotInTracker)
@@ -31,6 +31,7 @@ seatOf k count numbers highest ended counts first last =
 -- the channel at place i keeps the rules
 pub record Kept (t : Tracker) (i : ℕ) : Type 0 where
   pub place : i < channelLimit
+  pub mark : getD (t .ended) i 0 ≤ 1
   pub row : soundRow (getD (t .highest) i 0) (getD (t .counts) i 0) (t .first) (t .last) (i * runLimit) ≡ true
 
 -- the n runs from place b on are in order

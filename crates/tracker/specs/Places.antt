@@ -1,7 +1,8 @@
 -- The tracker's arrays of numbers, and one channel's record in them (document 01, "Tracker").
 use Prim.Native.Nat.{ℕ, zero, suc, _*_}
 use mathlib.Core.List.{List, [], _∷_}
-use mathlib.Core.Bool.{false}
+use mathlib.Core.Bool.{Bool, cond}
+use lib.Dec.{eqb}
 use lib.ListN.{length, getD, set}
 use lib.Seq.{sets}
 use Rattle.gaps.specs.declared.Run.{Run}
@@ -28,12 +29,16 @@ unfoldable pub span : List ℕ → List ℕ → ℕ → ℕ → List Run
 span f l i zero = []
 span f l i (suc n) = run (getD f i 0) (getD l i 0) ∷ span f l (suc i) n
 
+-- "an ended mark" in its place: 1 where it is set, else 0
+abbrev pub mark : Bool → ℕ
+mark e = cond e 1 0
+
 -- the record of the channel at place i
 abbrev pub channel : Tracker → ℕ → Channel
 channel t i =
     record {
       highest = getD (t .highest) i 0;
-      ended = getD (t .ended) i false;
+      ended = eqb (getD (t .ended) i 0) 1;
       runs = span (t .first) (t .last) (i * runLimit) (getD (t .counts) i 0);
     }
 
@@ -44,7 +49,7 @@ put t i c =
       count = t .count;
       numbers = t .numbers;
       highest = set (t .highest) i (c .highest);
-      ended = set (t .ended) i (c .ended);
+      ended = set (t .ended) i (mark (c .ended));
       counts = set (t .counts) i (length (c .runs));
       first = sets (t .first) (i * runLimit) (padded runLimit (firsts (c .runs)));
       last = sets (t .last) (i * runLimit) (padded runLimit (lasts (c .runs)));

@@ -20,7 +20,7 @@ pub struct Tracker {
     pub count: usize,
     pub numbers: [u16; Tracker::CHANNELS],
     pub highest: [u64; Tracker::CHANNELS],
-    pub ended: [bool; Tracker::CHANNELS],
+    pub ended: [u8; Tracker::CHANNELS],
     pub counts: [usize; Tracker::CHANNELS],
     pub first: [u64; Tracker::PLACES],
     pub last: [u64; Tracker::PLACES],
@@ -129,7 +129,7 @@ impl Tracker {
             count: count,
             numbers: numbers,
             highest: [0; Tracker::CHANNELS],
-            ended: [false; Tracker::CHANNELS],
+            ended: [0; Tracker::CHANNELS],
             counts: [0; Tracker::CHANNELS],
             first: [0; Tracker::PLACES],
             last: [0; Tracker::PLACES],
@@ -168,7 +168,7 @@ impl Tracker {
                     };
                 }
                 if highest < n {
-                    let ended = self.ended[at];
+                    let ended = self.ended[at] == 1;
                     return self.raise(at, n - 1, n, ended, Verdict::New);
                 }
                 let count = self.counts[at];
@@ -212,11 +212,11 @@ impl Tracker {
                 }
                 let m = signs::natural(last);
                 let highest = self.highest[at];
-                let ended = self.ended[at] | end;
+                let ended = (self.ended[at] == 1) | end;
                 if highest < m {
                     return self.raise(at, m, m, ended, Verdict::Heard);
                 }
-                self.ended[at] = ended;
+                self.ended[at] = places::mark(ended);
                 Reply {
                     verdict: Verdict::Heard,
                     next: self,
@@ -284,7 +284,7 @@ impl Tracker {
         self.last[p] = m;
         self.counts[at] = j + 1;
         self.highest[at] = highest;
-        self.ended[at] = ended;
+        self.ended[at] = places::mark(ended);
         Reply {
             verdict: verdict,
             next: self,

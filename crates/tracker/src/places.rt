@@ -6,7 +6,7 @@ ghost use Rattle.gaps.specs.Gaps.{cutAll};
 ghost use Rattle.gaps.specs.Limits.{runLimit, mostNumber};
 ghost use Rattle.gaps.specs.Built.{packed, padded};
 ghost use lib.ListN.{length};
-ghost use Rattle.tracker.specs.Places.{channelLimit, placeCount, span};
+ghost use Rattle.tracker.specs.Places.{channelLimit, placeCount, span, mark};
 ghost use Rattle.tracker.specs.Arrived.{placeFrom};
 ghost use Rattle.tracker.specs.Inside.{Ordered, Found, Finds, Grows};
 use crate::Gap;
@@ -27,6 +27,13 @@ pub(crate) fn padded(numbers: &[u16]) -> [u16; Tracker::CHANNELS]
         i += 1;
     }
     out
+}
+
+// An ended mark, as it stands in its place.
+pub(crate) fn mark(ended: bool) -> u8
+    ensures { λ r. ⌜ r ≡ mark ended ⌝ }
+{
+    ended as u8
 }
 
 // The place of a channel, or the count where it is not there.

@@ -4,7 +4,7 @@ ghost use Prim.Native.Nat.{_+_, _-_, _≤_};
 ghost use Rattle.gaps.specs.Gaps.{canon};
 ghost use Rattle.gaps.specs.Limits.{runLimit, mostNumber};
 ghost use Rattle.tracker.specs.Places.{channelLimit, placeCount, firstNumber, span};
-ghost use Rattle.tracker.specs.Rules.{allZero, soundRow, soundRows, blank, sound};
+ghost use Rattle.tracker.specs.Rules.{allZero, soundRow, soundRows, marks, blank, sound};
 ghost use Rattle.tracker.specs.SetUp.{ascends};
 ghost use Rattle.tracker.specs.Inside.{seatOf};
 use crate::Seat;
@@ -141,12 +141,25 @@ fn rows<'a>(
     true
 }
 
+// Is each ended mark set or not?
+fn marked(ended: &[u8; Tracker::CHANNELS]) -> bool
+    ensures { λ r. ⌜ r ≡ marks (now (ended .entry)) 0 channelLimit ⌝ }
+{
+    let mut bits: u8 = 0;
+    let mut i: usize = 0;
+    while i < Tracker::CHANNELS {
+        bits = bits | ended[i];
+        i += 1;
+    }
+    bits <= 1
+}
+
 // Do the places from one on hold no channel?
 fn unused<'a>(
     from: usize,
     numbers: &'a [u16; Tracker::CHANNELS],
     highest: &'a [u64; Tracker::CHANNELS],
-    ended: &'a [bool; Tracker::CHANNELS],
+    ended: &'a [u8; Tracker::CHANNELS],
     counts: &'a [usize; Tracker::CHANNELS],
 ) -> bool
     requires { ⌜ from ≤ channelLimit ⌝ }
@@ -160,7 +173,7 @@ fn unused<'a>(
         if highest[i] != 0 {
             return false;
         }
-        if ended[i] {
+        if ended[i] != 0 {
             return false;
         }
         if counts[i] != 0 {
@@ -176,7 +189,7 @@ fn sound<'a>(
     count: usize,
     numbers: &'a [u16; Tracker::CHANNELS],
     highest: &'a [u64; Tracker::CHANNELS],
-    ended: &'a [bool; Tracker::CHANNELS],
+    ended: &'a [u8; Tracker::CHANNELS],
     counts: &'a [usize; Tracker::CHANNELS],
     first: &'a [u64; Tracker::PLACES],
     last: &'a [u64; Tracker::PLACES],
@@ -190,8 +203,10 @@ fn sound<'a>(
         return false;
     }
     if rows(count, numbers, highest, counts, first, last) {
-        if unused(count, numbers, highest, ended, counts) {
-            return cleared(first, last, count * Runs::LIMIT, Tracker::PLACES);
+        if marked(ended) {
+            if unused(count, numbers, highest, ended, counts) {
+                return cleared(first, last, count * Runs::LIMIT, Tracker::PLACES);
+            }
         }
     }
     false
@@ -203,7 +218,7 @@ pub(crate) fn seat<'a>(
     count: usize,
     numbers: &'a [u16; Tracker::CHANNELS],
     highest: &'a [u64; Tracker::CHANNELS],
-    ended: &'a [bool; Tracker::CHANNELS],
+    ended: &'a [u8; Tracker::CHANNELS],
     counts: &'a [usize; Tracker::CHANNELS],
     first: &'a [u64; Tracker::PLACES],
     last: &'a [u64; Tracker::PLACES],

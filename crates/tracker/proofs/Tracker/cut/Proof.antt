@@ -30,7 +30,7 @@ returns-2 c =
     let k = c .before .before .before .before .before .before .before .before .before .before .before .before in
     let s = k .args in
     let t = s .t1 in
-    sym (built-fits t (s .at) (accepted late) (cutAll (channel t (s .at) .runs) (s .n)) (c .before .before .before .before .before .before .before .without .result) (c .before .before .before .before .before .before .before .without .ensures) (c .before .before .lay .last .0) (c .lay2 .last .0) (c .before .before .before .before .before .before .if1 .left) (c .before .before .lay .ensures) (c .lay2 .ensures))
+    sym (built-fits t (s .at) (accepted late) (cutAll (channel t (s .at) .runs) (s .n)) (c .before .before .before .before .before .before .before .without .result) (c .before .before .before .before .before .before .before .without .ensures) (k .pre .mark) (c .before .before .lay .last .0) (c .lay2 .last .0) (c .before .before .before .before .before .before .if1 .left) (c .before .before .lay .ensures) (c .lay2 .ensures))
 
 pub cut-spec : {M : Type 1} → statement M
 cut-spec =

@@ -66,11 +66,11 @@ returns-2 c =
 
 element-write-self : tie.Need-element-write-self
 element-write-self c =
-    let k = c .before .before .before .before .before .before .before .before .before .before .before .before .before .before .before .before .before in
+    let k = c .before .before .before .before .before .before .before .before .before .before .before .before .before .before .before .before .before .before in
     let s = k .args in
     let t = s .t1 in
-    let i = c .before .before .before .before .before .before .before .seat2 .given .0 .0 in
-    let w = seat-row t (s .channel) (c .before .before .before .before .before .before .before .before .before .seat .result) (c .before .before .before .before .before .before .before .before .before .seat .ensures) i (c .before .before .before .before .before .before .before .seat2 .given .1) in
+    let i = c .before .before .before .before .before .before .before .before .seat2 .given .0 .0 in
+    let w = seat-row t (s .channel) (c .before .before .before .before .before .before .before .before .before .before .seat .result) (c .before .before .before .before .before .before .before .before .before .before .seat .ensures) i (c .before .before .before .before .before .before .before .before .seat2 .given .1) in
     omega (arith, w .1)
 
 returns-3 : tie.Need-returns-3
@@ -85,20 +85,20 @@ returns-4 c =
 
 returns-5 : tie.Need-returns-5
 returns-5 c =
-    let k = c .before .before .before .before .before .before .before .before .before .before .before .before .before .before .before .before .before in
+    let k = c .before .before .before .before .before .before .before .before .before .before .before .before .before .before .before .before .before .before in
     let s = k .args in
     let t = s .t1 in
-    let i = c .before .before .before .before .before .before .before .seat2 .given .0 .0 in
-    let w = seat-row t (s .channel) (c .before .before .before .before .before .before .before .before .before .seat .result) (c .before .before .before .before .before .before .before .before .before .seat .ensures) i (c .before .before .before .before .before .before .before .seat2 .given .1) in
-    let q : ltZ (s .last) (pos 0) ≡ c .before .before .before .before .before .below .result = sym (rw (toZ-ofZ (k .fits .last)) at (c .before .before .before .before .before .below .ensures)) in
-    let n = c .before .before .before .natural .result in
-    let z : n ≡ natural (s .last) = rw (toZ-ofZ (k .fits .last)) at (c .before .before .before .natural .ensures) in
-    let d = heartbeat-seat t (s .channel) (c .before .before .before .before .before .before .before .before .before .seat .result) (c .before .before .before .before .before .before .before .before .before .seat .ensures) i (c .before .before .before .before .before .before .before .seat2 .given .1) (s .last) (s .end) n z (q ∙ c .before .before .before .before .if1 .left) in
-    sym (d ∙ heard-behind t i (w .0) n (s .end) (omega arith))
+    let i = c .before .before .before .before .before .before .before .before .seat2 .given .0 .0 in
+    let w = seat-row t (s .channel) (c .before .before .before .before .before .before .before .before .before .before .seat .result) (c .before .before .before .before .before .before .before .before .before .before .seat .ensures) i (c .before .before .before .before .before .before .before .before .seat2 .given .1) in
+    let q : ltZ (s .last) (pos 0) ≡ c .before .before .before .before .before .before .below .result = sym (rw (toZ-ofZ (k .fits .last)) at (c .before .before .before .before .before .before .below .ensures)) in
+    let n = c .before .before .before .before .natural .result in
+    let z : n ≡ natural (s .last) = rw (toZ-ofZ (k .fits .last)) at (c .before .before .before .before .natural .ensures) in
+    let d = heartbeat-seat t (s .channel) (c .before .before .before .before .before .before .before .before .before .before .seat .result) (c .before .before .before .before .before .before .before .before .before .before .seat .ensures) i (c .before .before .before .before .before .before .before .before .seat2 .given .1) (s .last) (s .end) n z (q ∙ c .before .before .before .before .before .if1 .left) in
+    rw (c .mark .ensures) (sym (d ∙ heard-behind t i (w .0) n (s .end) (omega arith)))
 
 pub heartbeat-spec : {M : Type 1} → statement M
 heartbeat-spec =
     tie.close (tie.spec (λ c κs. search needs) (λ c. search needs) (λ c κs. search needs) (λ c. search needs)
     (λ c κs. search needs) (λ c. search needs) (λ c κs. search needs) (λ c κs. search needs) returns
     (λ c κs. search needs) mul-highest element-copy-out-highest element-copy-out-ended raise-requires returns-2
-    element-write-self returns-3 returns-4 returns-5)
+    (λ c κs. search needs) element-write-self returns-3 returns-4 returns-5)

@@ -52,16 +52,16 @@ add-self c = omega (arith, element-write-self c)
 
 returns-2 : tie.Need-returns-2
 returns-2 c =
-    let k = c .before .before .before .before .before .before .before in
+    let k = c .before .before .before .before .before .before .before .before in
     let s = k .args in
     let t = s .t1 in
     let w = kept-within t (s .at) (k .pre) in
-    let r = c .before .gap .ensures .room (c .if1 .left) in
-    sym (raised t (s .at) w (saidOf (s .verdict)) (s .highest) (s .ended) (s .m) (c .before .gap .result) r)
+    let r = c .before .before .gap .ensures .room (c .before .if1 .left) in
+    rw (c .mark .ensures) (sym (raised t (s .at) w (saidOf (s .verdict)) (s .highest) (s .ended) (s .m) (c .before .before .gap .result) r))
 
 pub raise-spec : {M : Type 1} → statement M
 raise-spec =
     tie.close (tie.spec (λ c. search needs) (λ c. search needs) (λ c. search needs) (λ c. search needs)
     (λ c. search needs) gap-requires (λ c κs. search needs) returns add-p mul-self element-write-self mul-self-2
     element-write-self-2 add-self (λ c. search needs) (λ c. search needs) (λ c. search needs) (λ c. search needs)
-    (λ c. search needs) returns-2)
+    (λ c κs. search needs) (λ c. search needs) returns-2)

@@ -38,13 +38,13 @@ returns-4 : tie.Need-returns-4 Inv-loop μ-loop
 returns-4 c =
     let s = c .before .before .before .before .before .before .before .before .before .before .args in
     let k = c .before .before .before .before .before .before .before .before .before .loop in
-    sym (k .inv .1 ∙ blank-count (s .numbers .now) (s .highest .now) (s .ended .now) (s .counts .now) (k .i) 8 (omega arith) (omega arith) (omega arith) (c .before .before .if3 .left) (c .if4 .taken))
+    sym (k .inv .1 ∙ blank-count (s .numbers .now) (s .highest .now) (s .ended .now) (s .counts .now) (k .i) 8 (omega arith) (omega arith) (omega arith) (omega arith) (c .if4 .taken))
 
 loop-again : tie.Need-loop-again Inv-loop μ-loop
 loop-again c =
     let s = c .before .before .before .before .before .before .before .before .before .before .args in
     let k = c .before .before .before .before .before .before .before .before .before .loop in
-    (omega arith, k .inv .1 ∙ blank-pass (s .numbers .now) (s .highest .now) (s .ended .now) (s .counts .now) (k .i) 8 (omega arith) (omega arith) (omega arith) (c .before .before .if3 .left) (omega arith))
+    (omega arith, k .inv .1 ∙ blank-pass (s .numbers .now) (s .highest .now) (s .ended .now) (s .counts .now) (k .i) 8 (omega arith) (omega arith) (omega arith) (omega arith) (omega arith))
 
 returns-5 : tie.Need-returns-5 Inv-loop μ-loop
 returns-5 c =
