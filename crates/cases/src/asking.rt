@@ -1,5 +1,5 @@
 // Requests: the bytes that are written, and the answers that write nothing.
-use request::Requested;
+use tracker::Requested;
 use tracker::Tracker;
 
 const CHANNEL: u16 = 2011;
@@ -52,7 +52,7 @@ fn tried(
     if out.len() < room {
         return at;
     }
-    let answer = request::request(t, channel, &mut out[0..room]);
+    let answer = t.request(channel, &mut out[0..room]);
     let a = text::word(lines, at, name);
     let b = word(lines, a, answer);
     let c = numbers(lines, b, out);

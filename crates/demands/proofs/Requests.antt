@@ -24,10 +24,10 @@ use Rattle.gaps.specs.Limits.{mostNumber}
 use Rattle.tracker.specs.declared.Tracker.{Tracker}
 use Rattle.tracker.specs.FirstRun.{Lost, lost, nothingMissing, firstRun}
 use Rattle.tracker.proofs.FirstRun.{Lies, first-lies}
-use Rattle.request.specs.Request.{asked, spaces, numbersFor, requestFrame, requestLength, fitting, judging, Said, written, nothing, answerOf, outputOf, answering, leaving, paper}
-use Rattle.request.specs.declared.Requested.{Requested}
-use Rattle.request.proofs.Batch.{asked-within}
-use Rattle.request.proofs.Judged.{request-length, judged-request, answers-by, leaves-by}
+use Rattle.tracker.specs.Request.{asked, spaces, numbersFor, requestFrame, requestLength, fitting, judging, Said, written, nothing, answerOf, outputOf, answering, leaving, paper}
+use Rattle.tracker.specs.declared.Requested.{Requested}
+use Rattle.tracker.proofs.Batch.{asked-within}
+use Rattle.tracker.proofs.Fitting.{request-length, judged-request, answers-by, leaves-by}
 use Rattle.demands.specs.Requests.{Call, Asks, Requests, RequestReads}
 use Rattle.demands.proofs.Back.{back-known}
 

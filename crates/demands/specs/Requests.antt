@@ -14,8 +14,8 @@ use Rattle.record.specs.Record.{known, frameReading}
 use Rattle.gaps.specs.declared.Run.{Run}
 use Rattle.tracker.specs.declared.Tracker.{Tracker}
 use Rattle.tracker.specs.FirstRun.{lost, firstRun}
-use Rattle.request.specs.Request.{asked, space, written, answering, leaving, paper}
-use Rattle.request.specs.declared.Requested.{Requested}
+use Rattle.tracker.specs.Request.{asked, space, written, answering, leaving, paper}
+use Rattle.tracker.specs.declared.Requested.{Requested}
 
 -- a call of the request: its answer, and the output after it
 pub record Call (t : Tracker) (k : ℕ) (out : List ℕ) (a : Requested) (after : List ℕ) : Type 0 where

@@ -1,12 +1,12 @@
--- The first run of a channel by its seat, the numbers that it lies within, and that one answer meets its promise.
+-- The first run of a channel by its seat, and the numbers that it lies within.
 use Prim.Native.Nat.{ℕ, zero, suc, _*_, _≤_}
 use native.Mathlib.Omega.{arith}
 use mathlib.Core.Path.{_≡_, refl, ap, sym, _∙_}
 use mathlib.Core.List.{List, [], _∷_}
-use mathlib.Core.Bool.{Bool, true, false, cond}
-use lib.Dec.{leb, eqb, ltb}
+use mathlib.Core.Bool.{true}
+use lib.Dec.{leb}
 use lib.ListN.{getD}
-use borrow.Author.Tests.{leb-true, ltb-true, lt-ltb, le-ltb}
+use borrow.Author.Tests.{leb-true, lt-ltb, le-ltb}
 use Rattle.wire.specs.Answer.{Answer, accepted, refused, guard}
 use Rattle.wire.specs.Refusal.{noSuchChannel, malformed}
 use Rattle.gaps.specs.declared.Run.{Run}
@@ -16,13 +16,11 @@ use Rattle.gaps.proofs.Numbers.{and-split}
 use Rattle.tracker.specs.declared.Tracker.{Tracker}
 use Rattle.tracker.specs.declared.Seat.{Seat}
 use Rattle.tracker.specs.declared.Seat.the-variants as seat
-use Rattle.tracker.specs.declared.Wanted.{Wanted}
-use Rattle.tracker.specs.declared.Wanted.the-variants.{First, NothingMissing, NotInTracker, Malformed}
 use Rattle.tracker.specs.Places.{channel, firstNumber, span}
 use Rattle.tracker.specs.Rules.{soundRow, wellFormed}
 use Rattle.tracker.specs.Arrived.{place}
 use Rattle.tracker.specs.Inside.{Kept}
-use Rattle.tracker.specs.FirstRun.{Lost, lost, nothingMissing, foremost, firstRun, lostOf}
+use Rattle.tracker.specs.FirstRun.{Lost, lost, nothingMissing, foremost, firstRun}
 use Rattle.tracker.proofs.Seated.{well-row, seatIn, Sits, sits-10, sits-7, sits-at, sits}
 
 -- ---- by the seat
@@ -91,21 +89,3 @@ first-lies t k r e = go (seatIn t k) (sits t k) (sym (by-seat t k (seatIn t k) (
     go s (sits-at a b) p =
         let q : foremost (channel t (place t k) .runs) ≡ lost r = cc in
         lies-row t (place t k) r (well-row t a (place t k) b) q
-
--- ---- one answer
-
-wantedOf : Answer Lost → Wanted
-wantedOf (accepted (lost r)) = First r
-wantedOf (accepted nothingMissing) = NothingMissing
-wantedOf (refused n v) = cond (eqb n noSuchChannel) NotInTracker Malformed
-
-wanted-of : (w : Wanted) → wantedOf (lostOf w) ≡ w
-unfolding wantedOf
-wanted-of (First r) = refl
-wanted-of NothingMissing = refl
-wanted-of NotInTracker = refl
-wanted-of Malformed = refl
-
--- the first run of a channel leaves one answer
-pub one-first-run : (t : Tracker) (k : ℕ) (v w : Wanted) → lostOf v ≡ firstRun t k → lostOf w ≡ firstRun t k → v ≡ w
-one-first-run t k v w p q = sym (wanted-of v) ∙ ap wantedOf (p ∙ sym q) ∙ wanted-of w

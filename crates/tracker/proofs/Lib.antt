@@ -9,5 +9,7 @@ pub mod Put
 pub mod Seated
 pub mod Judge
 pub mod FirstRun
+pub mod Batch
+pub mod Fitting
 pub mod Unique
 pub mod Holder

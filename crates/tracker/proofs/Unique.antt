@@ -5,7 +5,7 @@ use mathlib.Core.List.{List}
 use mathlib.Core.Bool.{cond}
 use lib.Dec.{eqb}
 use Rattle.wire.specs.Answer.{Answer, accepted, refused}
-use Rattle.wire.specs.Refusal.{noSuchChannel, numberTooLow, tableFull}
+use Rattle.wire.specs.Refusal.{outputShort, noSuchChannel, numberTooLow, tableFull}
 use Rattle.gaps.specs.Channel.{Said, new, late, duplicate, heard}
 use Rattle.tracker.specs.declared.Tracker.{Tracker}
 use Rattle.tracker.specs.declared.Verdict.{Verdict}
@@ -14,8 +14,11 @@ use Rattle.tracker.specs.declared.Reply.{Reply}
 use Rattle.tracker.specs.declared.Start.{Start}
 use Rattle.tracker.specs.declared.Start.the-variants.{SetUp, Malformed as Refused}
 use Rattle.tracker.specs.declared.Started.{Started}
+use Rattle.tracker.specs.declared.Requested.{Requested}
+use Rattle.tracker.specs.declared.Requested.the-variants as asked
 use Rattle.tracker.specs.SetUp as begin
 use Rattle.tracker.specs.Arrived.{Arrival, Outcome, arrived, saidOf, paper}
+use Rattle.tracker.specs.Request as request
 
 -- the verdict that a paper's number or word names
 unfoldable pub named : Answer Said → Verdict
@@ -66,3 +69,26 @@ one-set-up numbers r s p q =
     let v : r .verdict ≡ s .verdict = sym (started-said (r .verdict)) ∙ ap (λ (o : begin.Ready). started (o .said)) e ∙ started-said (s .verdict) in
     let n : r .tracker ≡ s .tracker = ap (λ (o : begin.Ready). o .tracker) e in
     let z : startedOf (r .verdict) (r .tracker) ≡ startedOf (s .verdict) (s .tracker) = rw (v, n) in z
+
+requestedOf : Answer request.Said → Requested
+requestedOf (accepted (request.written n)) = asked.Written n
+requestedOf (accepted request.nothing) = asked.NothingMissing
+requestedOf (refused n v) = cond (eqb n noSuchChannel) asked.NotInTracker (cond (eqb n outputShort) asked.OutputShort asked.Malformed)
+
+requested-of : (x : Requested) → requestedOf (request.paper x) ≡ x
+unfolding requestedOf
+requested-of (asked.Written n) = refl
+requested-of asked.NothingMissing = refl
+requested-of asked.Malformed = refl
+requested-of asked.NotInTracker = refl
+requested-of asked.OutputShort = refl
+
+-- an answer and an output that meet the request's promise
+pub record Meets (t : Tracker) (k : ℕ) (out : List ℕ) (x : Requested) (after : List ℕ) : Type 0 where
+  pub answers : request.paper x ≡ request.answering t k out
+  pub leaves : after ≡ request.leaving t k out
+
+-- a request leaves one answer and one content of the output
+pub one-request : (t : Tracker) (k : ℕ) (out : List ℕ) (x y : Requested) (u v : List ℕ) → Meets t k out x u → Meets t k out y v → (x ≡ y) × (u ≡ v)
+one-request t k out x y u v p q =
+    (sym (requested-of x) ∙ ap requestedOf (p .answers ∙ sym (q .answers)) ∙ requested-of y, p .leaves ∙ sym (q .leaves))

@@ -7,8 +7,6 @@ use Rattle.wire.specs.Answer.{Answer, accepted, refused, guard}
 use Rattle.wire.specs.Refusal.{noSuchChannel, malformed}
 use Rattle.gaps.specs.declared.Run.{Run}
 use Rattle.tracker.specs.declared.Tracker.{Tracker}
-use Rattle.tracker.specs.declared.Wanted.{Wanted}
-use Rattle.tracker.specs.declared.Wanted.the-variants.{First, NothingMissing, NotInTracker, Malformed}
 use Rattle.tracker.specs.Places.{channel}
 use Rattle.tracker.specs.Rules.{wellFormed}
 use Rattle.tracker.specs.Arrived.{place}
@@ -29,10 +27,3 @@ firstRun t k =
     guard (not (wellFormed t)) (refused malformed [])
     (guard (not (ltb (place t k) (t .count))) (refused noSuchChannel [])
     (accepted (foremost (channel t (place t k) .runs))))
-
--- the paper's number and values for each case of the code's answer
-abbrev pub lostOf : Wanted → Answer Lost
-lostOf (First r) = accepted (lost r)
-lostOf NothingMissing = accepted nothingMissing
-lostOf NotInTracker = refused noSuchChannel []
-lostOf Malformed = refused malformed []

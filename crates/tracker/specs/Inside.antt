@@ -5,13 +5,15 @@ use mathlib.Core.List.{List, [], _∷_, _++_}
 use mathlib.Core.Bool.{Bool, true, false, cond}
 use lib.Dec.{ltb}
 use lib.ListN.{length, take, getD}
-use Rattle.wire.specs.Answer.{Answer, refused}
+use Rattle.wire.specs.Answer.{Answer, accepted, refused}
 use Rattle.gaps.specs.declared.Run.{Run}
 use Rattle.gaps.specs.Gaps.{run, has, cut, grow, canon}
-use Rattle.wire.specs.Refusal.{tableFull}
+use Rattle.wire.specs.Refusal.{noSuchChannel, tableFull, malformed}
 use Rattle.gaps.specs.Limits.{runLimit}
 use Rattle.gaps.specs.Channel.{Said}
 use Rattle.tracker.specs.declared.Tracker.{Tracker}
+use Rattle.tracker.specs.declared.Wanted.{Wanted}
+use Rattle.tracker.specs.declared.Wanted.the-variants as wanted
 use Rattle.tracker.specs.declared.Gap.{Gap}
 use Rattle.tracker.specs.declared.Held.{Held}
 use Rattle.tracker.specs.declared.Held.the-variants.{No, AtEnd, Within}
@@ -20,6 +22,7 @@ use Rattle.tracker.specs.declared.Seat.the-variants.{Malformed, NotInTra
 use Rattle.tracker.specs.Places.{channelLimit, span, put}
 use Rattle.tracker.specs.Rules.{soundRow, sound}
 use Rattle.tracker.specs.Arrived.{Outcome, placeFrom}
+use Rattle.tracker.specs.FirstRun.{Lost, lost, nothingMissing}
 
 -- where a channel stands: 10, then 7, then its place
 unfoldable pub seatOf : ℕ → ℕ → List ℕ → List ℕ → List ℕ → List ℕ → List ℕ → List ℕ → Seat
@@ -70,3 +73,10 @@ stored t i a highest ended runs =
     cond (ltb runLimit (length runs))
     (record { said = refused tableFull []; next = t })
     (record { said = a; next = put t i (record { highest = highest; ended = ended; runs = runs }) })
+
+-- the paper's number and values for each case of the first run's answer
+abbrev pub lostOf : Wanted → Answer Lost
+lostOf (wanted.First r) = accepted (lost r)
+lostOf wanted.NothingMissing = accepted nothingMissing
+lostOf wanted.NotInTracker = refused noSuchChannel []
+lostOf wanted.Malformed = refused malformed []

@@ -5,12 +5,14 @@ ghost use Rattle.gaps.specs.Channel.{tick, heartbeat};
 ghost use Rattle.tracker.specs.Places.{channel};
 ghost use Rattle.tracker.specs.SetUp.{blankWith, setUp, paper as begun};
 ghost use Rattle.tracker.specs.Arrived.{on, arrived, saidOf, paper};
-ghost use Rattle.tracker.specs.FirstRun.{firstRun, lostOf};
-ghost use Rattle.tracker.specs.Inside.{Kept, stored};
+ghost use Rattle.tracker.specs.FirstRun.{firstRun};
+ghost use Rattle.tracker.specs.Request.{answering, leaving, paper as requested};
+ghost use Rattle.tracker.specs.Inside.{Kept, lostOf, stored};
 use gaps::Run;
 use gaps::Runs;
 
 mod places;
+mod request;
 mod rules;
 mod signs;
 
@@ -56,8 +58,22 @@ pub struct Reply {
     pub next: Tracker,
 }
 
+// What a request is answered: how many bytes were written, nothing missing, or the refusal.
+pub enum Requested {
+    Written(usize),
+    NothingMissing,
+    Malformed,
+    NotInTracker,
+    OutputShort,
+}
+
+impl Requested {
+    // The most numbers that one request asks for.
+    pub const BATCH: u64 = 200;
+}
+
 // The first run of a channel, or why there is none.
-pub enum Wanted {
+enum Wanted {
     First(Run),
     NothingMissing,
     NotInTracker,
@@ -225,8 +241,21 @@ impl Tracker {
         }
     }
 
+    // Writes the frame that asks for the first run of a channel, or for as many of its numbers as one request may; a refused or empty request leaves every byte as it stood.
+    pub fn request(self, channel: u16, out: &mut [u8]) -> Requested
+        ensures { λ r. ⌜ requested r ≡ answering self channel (now (out .entry)) ⌝ }
+        ensures { λ r. ⌜ now (out .exit) ≡ leaving self channel (now (out .entry)) ⌝ }
+    {
+        match self.first_run(channel) {
+            Wanted::First(run) => request::ask(channel, run, out),
+            Wanted::NothingMissing => Requested::NothingMissing,
+            Wanted::NotInTracker => Requested::NotInTracker,
+            Wanted::Malformed => Requested::Malformed,
+        }
+    }
+
     // The first run of a channel.
-    pub fn first_run(self, channel: u16) -> Wanted
+    fn first_run(self, channel: u16) -> Wanted
         ensures { λ r. ⌜ lostOf r ≡ firstRun self channel ⌝ }
     {
         let seat = rules::seat(

@@ -1,9 +1,9 @@
 use borrow.Author.Needs.{needs}
 use native.Mathlib.Omega.{arith}
 use mathlib.Core.Path.{sym}
-use Rattle.request.proofs.Batch.{asked-all, asked-batch}
-use Rattle.request.proofs.asked.Statement.{statement}
-use Rattle.request.proofs.asked.Tie as tie
+use Rattle.tracker.proofs.Batch.{asked-all, asked-batch}
+use Rattle.tracker.proofs.request.asked.Statement.{statement}
+use Rattle.tracker.proofs.request.asked.Tie as tie
 
 returns : tie.Need-returns
 returns c = sym (asked-all (c .before .before .before .args .run) (c .if1 .taken))

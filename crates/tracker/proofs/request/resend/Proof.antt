@@ -2,9 +2,9 @@ use borrow.Author.Needs.{needs}
 use native.Mathlib.Omega.{arith}
 use mir.Syntax.{w64}
 use mir.Facts.{toZ-pos}
-use Rattle.request.proofs.Judged.{resend-of}
-use Rattle.request.proofs.resend.Statement.{statement}
-use Rattle.request.proofs.resend.Tie as tie
+use Rattle.tracker.proofs.Fitting.{resend-of}
+use Rattle.tracker.proofs.request.resend.Statement.{statement}
+use Rattle.tracker.proofs.request.resend.Tie as tie
 
 returns : tie.Need-returns
 returns c =

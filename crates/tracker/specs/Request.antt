@@ -16,10 +16,10 @@ use Rattle.writer.specs.Body.{body, bodyLength}
 use Rattle.writer.specs.Write.{frameOf, frameLength}
 use Rattle.gaps.specs.declared.Run.{Run}
 use Rattle.gaps.specs.Gaps.{run}
 use Rattle.tracker.specs.declared.Tracker.{Tracker}
 use Rattle.tracker.specs.FirstRun.{Lost, lost, nothingMissing, firstRun}
-use Rattle.request.specs.declared.Requested.{Requested}
-use Rattle.request.specs.declared.Requested.the-variants.{Written, NothingMissing, Malformed, NotInTracker, OutputShort}
+use Rattle.tracker.specs.declared.Requested.{Requested}
+use Rattle.tracker.specs.declared.Requested.the-variants.{Written, NothingMissing, Malformed, NotInTracker, OutputShort}
 
 -- ---- which numbers it asks for
 

@@ -4,11 +4,11 @@ use denote.Ref.{now}
 use mathlib.Core.Path.{_≡_, ap, sym, _∙_}
 use Rattle.writer.specs.Paper as writer
 use Rattle.gaps.specs.declared.Run.{Run}
-use Rattle.request.specs.Request.{resendOf}
-use Rattle.request.proofs.Batch.{asked-within}
-use Rattle.request.proofs.Judged.{whole, short}
-use Rattle.request.proofs.ask.Statement.{statement}
-use Rattle.request.proofs.ask.Tie as tie
+use Rattle.tracker.specs.Request.{resendOf}
+use Rattle.tracker.proofs.Batch.{asked-within}
+use Rattle.tracker.proofs.Fitting.{whole, short}
+use Rattle.tracker.proofs.request.ask.Statement.{statement}
+use Rattle.tracker.proofs.request.ask.Tie as tie
 
 resend-requires : tie.Need-resend-requires
 resend-requires c κs =

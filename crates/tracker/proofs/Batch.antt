@@ -8,7 +8,7 @@ use borrow.Author.Tests.{ltb-true, ltb-false, lt-ltb, le-ltb}
 use lib.Dec.{ltb}
 use Rattle.gaps.specs.declared.Run.{Run}
 use Rattle.gaps.specs.Gaps.{run}
-use Rattle.request.specs.Request.{batch, asked}
+use Rattle.tracker.specs.Request.{batch, asked}
 
 module _ (r : Run) where
   pub asked-all : r .last < r .first + batch → asked r ≡ r

@@ -23,9 +23,9 @@ use Rattle.writer.specs.Body.{bodyLength, textSize, even, exact, numbersIn, all
 use Rattle.writer.specs.Write as writer
 use Rattle.gaps.specs.declared.Run.{Run}
 use Rattle.gaps.specs.Limits.{mostNumber}
 use Rattle.tracker.specs.declared.Tracker.{Tracker}
 use Rattle.tracker.specs.FirstRun.{Lost, lost, nothingMissing, firstRun}
-use Rattle.request.specs.Request.{asked, spaces, numbersFor, resendOf, requestLength, fitting, judging, Said, written, nothing, answerOf, outputOf, answering, leaving}
+use Rattle.tracker.specs.Request.{asked, spaces, numbersFor, resendOf, requestLength, fitting, judging, Said, written, nothing, answerOf, outputOf, answering, leaving}
 
 -- a 390094 frame has 44 + 12 bytes
 pub request-length : requestLength ≡ 56
