@@ -150,12 +150,12 @@ module _ (ns : List ℕ) (k : ℕ) (h : seat ns k < length ns) where
 
 -- ---- a channel after a playing
 
-record View (ns : List ℕ) (t u : Tracker) (l : List Told) (k : ℕ) : Type 0 where
-  right : Exact 1 (recordOf u k) (historyOf k l)
-  size : length (recordOf u k .runs) ≤ 32
-  answer : (e : Event) (r : Reply) → paper r ≡ arrived u (on k e) → saidOf (r .verdict) ≡ words (judged (recordOf u k) e)
+pub record View (ns : List ℕ) (t u : Tracker) (l : List Told) (k : ℕ) : Type 0 where
+  pub right : Exact 1 (recordOf u k) (historyOf k l)
+  pub size : length (recordOf u k .runs) ≤ 32
+  pub answer : (e : Event) (r : Reply) → paper r ≡ arrived u (on k e) → saidOf (r .verdict) ≡ words (judged (recordOf u k) e)
 
-view : (ns : List ℕ) (t u : Tracker) (l : List Told) → Fresh ns t → Play t l u → (k : ℕ) → Holds t k → View ns t u l k
+pub view : (ns : List ℕ) (t u : Tracker) (l : List Told) → Fresh ns t → Play t l u → (k : ℕ) → Holds t k → View ns t u l k
 view ns t u l f p k h =
     let s = seated ns t u l f p k h in
     let e = final ns t u l f p in

@@ -1,7 +1,8 @@
--- Demand 2 for the request: "A request for a channel asks for the first run, or its first 200 numbers [..]: a 390094 frame with resend
+-- Demands 2 and 3 for the request: "A request for a channel asks for the first run, or its first 200 numbers [..]: a 390094 frame with resend
 -- type 1, news id and text all spaces, status 0". What the request writes, the frame reader accepts, and the record reader gives those numbers.
+-- By the history of demand 3 they are missing, and no lower number is.
 -- Assumes nothing.
-use Prim.Native.Nat.{ℕ, _^_, _<_}
+use Prim.Native.Nat.{ℕ, _+_, _^_, _≤_, _<_}
 use mathlib.Core.Path.{_≡_}
 use mathlib.Core.List.{List, [], _∷_}
 use lib.IntN.{pos}
@@ -12,10 +13,13 @@ use Rattle.layout.specs.Layout.{resend}
 use Rattle.record.specs.Asked.{told}
 use Rattle.record.specs.Record.{known, frameReading}
 use Rattle.gaps.specs.declared.Run.{Run}
+use Rattle.gaps.specs.History.{Missing}
 use Rattle.tracker.specs.declared.Tracker.{Tracker}
 use Rattle.tracker.specs.FirstRun.{lost, firstRun}
-use Rattle.tracker.specs.Request.{asked, space, written, answering, leaving, paper}
+use Rattle.tracker.specs.Places.{firstNumber}
+use Rattle.tracker.specs.Request.{batch, asked, space, written, nothing, answering, leaving, paper}
 use Rattle.tracker.specs.declared.Requested.{Requested}
+use Rattle.demands.specs.Play.{Fresh, Told, Play, historyOf, Holds}
 
 -- a call of the request: its answer, and the output after it
 pub record Call (t : Tracker) (k : ℕ) (out : List ℕ) (a : Requested) (after : List ℕ) : Type 0 where
@@ -41,3 +45,32 @@ abbrev pub RequestReads : Type 0
 RequestReads =
     (t : Tracker) (k : ℕ) (out after : List ℕ) (a : Requested) (n : ℕ) → k < 256 ^ 2 → Call t k out a after →
     paper a ≡ accepted (written n) → Requests t k n after
+
+-- ---- by the history
+
+-- n is missing on channel k: from 1 to the highest that accepted arrivals brought or announced, and not brought
+abbrev pub Lacks : ℕ → List Told → ℕ → Type 0
+Lacks k l n = Missing firstNumber (historyOf k l) n
+
+-- bytes that ask for the lowest missing numbers of channel k: each number from the first to the last is missing, no lower one is,
+-- and neither is the next one, but where the batch is full
+pub record AsksForMissing (k : ℕ) (l : List Told) (s : List ℕ) : Type 0 where
+  pub run : Run
+  pub asks : Asks k run s
+  pub some : run .first ≤ run .last
+  pub missing : (n : ℕ) → run .first ≤ n → n ≤ run .last → Lacks k l n
+  pub least : (n : ℕ) → Lacks k l n → run .first ≤ n
+  pub few : run .last < run .first + batch
+  pub whole : Lacks k l (run .last + 1) → run .last + 1 ≡ run .first + batch
+
+-- whatever was played into a fresh record, a request that is answered written asks for missing numbers
+abbrev pub RequestAsksForMissing : Type 0
+RequestAsksForMissing =
+    (numbers : List ℕ) (t u : Tracker) (l : List Told) → Fresh numbers t → Play t l u → (k : ℕ) → Holds t k → k < 256 ^ 2 →
+    (out after : List ℕ) (a : Requested) (n : ℕ) → Call u k out a after → paper a ≡ accepted (written n) → AsksForMissing k l after
+
+-- and one that is answered "nothing missing" has none to ask for
+abbrev pub NothingIsMissing : Type 0
+NothingIsMissing =
+    (numbers : List ℕ) (t u : Tracker) (l : List Told) → Fresh numbers t → Play t l u → (k : ℕ) → Holds t k →
+    (out after : List ℕ) (a : Requested) → Call u k out a after → paper a ≡ accepted nothing → (n : ℕ) → Lacks k l n → ⊥

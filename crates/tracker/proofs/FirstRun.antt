@@ -79,13 +79,19 @@ lies-row t i r w p =
     let d = and-split (canon firstNumber h (span (t .first) (t .last) (i * runLimit) n)) _ (b .1) in
     lies-in h (span (t .first) (t .last) (i * runLimit) n) r (leb-true h mostNumber (b .0)) (d .0) p
 
--- a channel's first run lies from 1 to the largest number that an arrival can bring
-pub first-lies : (t : Tracker) (k : ℕ) (r : Run) → firstRun t k ≡ accepted (lost r) → Lies r
-first-lies t k r e = go (seatIn t k) (sits t k) (sym (by-seat t k (seatIn t k) (sits t k)) ∙ e)
+-- a first run that is answered, or none, is the foremost of the channel's runs
+pub record Foremost (t : Tracker) (k : ℕ) (x : Lost) : Type 0 where
+  pub kept : Kept t (place t k)
+  pub same : foremost (channel t (place t k) .runs) ≡ x
+
+pub first-of : (t : Tracker) (k : ℕ) (x : Lost) → firstRun t k ≡ accepted x → Foremost t k x
+first-of t k x e = go (seatIn t k) (sits t k) (sym (by-seat t k (seatIn t k) (sits t k)) ∙ e)
   where
-    go : (s : Seat) → Sits t k s → firstAt t s ≡ accepted (lost r) → Lies r
+    go : (s : Seat) → Sits t k s → firstAt t s ≡ accepted x → Foremost t k x
     go s (sits-10 a) p = absurd (let z : _≡_ {A = ℕ} 0 1 = cc in omega arith)
     go s (sits-7 a b) p = absurd (let z : _≡_ {A = ℕ} 0 1 = cc in omega arith)
-    go s (sits-at a b) p =
-        let q : foremost (channel t (place t k) .runs) ≡ lost r = cc in
-        lies-row t (place t k) r (well-row t a (place t k) b) q
+    go s (sits-at a b) p = record { kept = well-row t a (place t k) b; same = cc }
+
+-- a channel's first run lies from 1 to the largest number that an arrival can bring
+pub first-lies : (t : Tracker) (k : ℕ) (r : Run) → firstRun t k ≡ accepted (lost r) → Lies r
+first-lies t k r e = let f = first-of t k (lost r) e in lies-row t (place t k) r (f .kept) (f .same)
