@@ -33,7 +33,8 @@ enum {
     ORIZHGUM_NO_SUCH_ENTRY = 101, /* a position not below the count */
     ORIZHGUM_NO_PRICE = 102,      /* an entry that says no price; the lent number is as it stood */
     ORIZHGUM_LATE = 103,          /* a tick that was missing */
-    ORIZHGUM_DUPLICATE = 104      /* a tick that had come before */
+    ORIZHGUM_DUPLICATE = 104,     /* a tick that had come before */
+    ORIZHGUM_NOTHING_MISSING = 105 /* a request for a channel without a missing number */
 };
 
 /* ---- types */
@@ -399,6 +400,10 @@ struct orizhgum_write_answer orizhgum_write_security_status(struct orizhgum_secu
 
 struct orizhgum_write_answer orizhgum_write_heartbeat(const uint8_t *texts, size_t texts_length,
     const uint8_t *groups, size_t groups_length, uint8_t *out, size_t out_length);
+
+/* ---- the request: a frame of ORIZHGUM_RESEND, 56 bytes, to the start of out, that asks for the first run of a channel, or for its
+ * first 200 numbers; ORIZHGUM_NOTHING_MISSING, and every other answer but 0, writes nothing and leaves out as it stood */
+struct orizhgum_write_answer orizhgum_request(struct orizhgum_tracker tracker, uint16_t channel, uint8_t *out, size_t out_length);
 
 #ifdef __cplusplus
 }

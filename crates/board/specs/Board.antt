@@ -21,6 +21,9 @@ lateNumber = 103
 abbrev pub duplicateNumber : ℕ
 duplicateNumber = 104
 
+abbrev pub nothingMissingNumber : ℕ
+nothingMissingNumber = 105
+
 -- "a refusal returns its number"
 abbrev pub answerNumber : {A : Type 0} → Answer A → ℕ
 answerNumber (accepted x) = plain

@@ -4,3 +4,4 @@ pub mod Groups
 pub mod Entries
 pub mod Arrivals
 pub mod Written
+pub mod Requested

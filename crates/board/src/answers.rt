@@ -13,6 +13,8 @@ pub(crate) const LATE: u32 = 103;
 
 pub(crate) const DUPLICATE: u32 = 104;
 
+pub(crate) const NOTHING_MISSING: u32 = 105;
+
 // The paper's number of a body's refusal.
 pub(crate) fn number(x: Refusal) -> u32
     ensures { λ r. ⌜ r ≡ refusal x ⌝ }

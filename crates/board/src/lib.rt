@@ -9,6 +9,7 @@ mod arrivals;
 mod entry;
 mod groups;
 mod records;
+mod requested;
 mod written;
 
 // The frame that some bytes begin with: its type, the body's length and the length of the frame; zeros where it is refused.
