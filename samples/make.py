@@ -14,6 +14,7 @@ import cases
 import check
 import listing
 import opening
+import receiving
 import showing
 
 
@@ -54,6 +55,8 @@ def main():
     for file, name in [(opening.file(), "opening.again")] + [
             (each, f"show/{each.name}.again") for each in showing.files()]:
         write(folder, name, cases.again(file))
+    write(folder, "opening.receiver",
+          receiving.text(cases.bytes_of(opening.file())).encode("ascii"))
 
 
 main()
