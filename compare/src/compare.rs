@@ -5,8 +5,8 @@
 
 use crate::inputs::{Asked, Call, Input, Inputs};
 use crate::receiver::{
-    ArrivalAnswer, Cursor, Draft, Entry, Found, FrameAnswer, ReadAnswer, Receiver, RequestAnswer,
-    Says, Step, Tracker, Verdict, WriteAnswer,
+    ArrivalAnswer, Cursor, Draft, Entry, Found, FrameAnswer, PriceAnswer, ReadAnswer, Receiver,
+    RequestAnswer, Says, StepAnswer, Tracker, Verdict, WriteAnswer,
 };
 use crate::second::layout::{layout, SNAPSHOT};
 use crate::second::rules::Rules;
@@ -15,6 +15,12 @@ use std::fmt;
 
 /// The byte that a request's output holds before.
 const MARKER: u8 = 0xA5;
+
+/// Bytes behind each lent output, which nobody may write.
+const BEHIND: [u8; 64] = [0xC3; 64];
+
+/// The number that is lent for a price. No price is as low as this.
+const UNSET: i64 = i64::MIN + 0x5A;
 
 /// A call that two receivers answer differently.
 #[derive(Debug)]
@@ -119,6 +125,30 @@ fn found<T>(answer: &Found<T>) -> &'static str {
         Found::NoSuchEntry => "none",
         Found::Found(_) => "found",
     }
+}
+
+/// The column of a price asked for.
+fn priced(answer: PriceAnswer) -> &'static str {
+    match answer {
+        PriceAnswer::Refused(number) => refusal(number),
+        PriceAnswer::NoSuchEntry => "none",
+        PriceAnswer::NoPrice => "no price",
+        PriceAnswer::Price => "found",
+    }
+}
+
+/// A call with a lent output, and the bytes that it leaves there and behind.
+fn lent<T>(before: &[u8], call: impl FnOnce(&mut [u8]) -> T) -> (T, Bytes) {
+    let mut bytes = [before, &BEHIND].concat();
+    let answer = call(&mut bytes[..before.len()]);
+    (answer, Bytes(bytes))
+}
+
+/// A call with a lent number, and what it holds then.
+fn lent_number<T>(call: impl FnOnce(&mut i64) -> T) -> (T, i64) {
+    let mut number = UNSET;
+    let answer = call(&mut number);
+    (answer, number)
 }
 
 /// The column of what an entry says.
@@ -241,6 +271,12 @@ impl Play<'_> {
         let answer = same(call, a.entry(kind, body, entry), b.entry(kind, body, entry))?;
         self.table
             .meet(Part::Positions, table::ENTRY, found(&answer));
+        let call = || format!("price of entry {entry} of {kind}");
+        let first = lent_number(|price| a.entry_price(kind, body, entry, price));
+        let second = lent_number(|price| b.entry_price(kind, body, entry, price));
+        let (answer, _) = same(call, first, second)?;
+        self.table
+            .meet(Part::Positions, table::ENTRY_PRICE, priced(answer));
         let call = || format!("quantity {quantity} of entry {entry} of {kind}");
         let first = a.quantity(kind, body, entry, quantity);
         let answer = same(call, first, b.quantity(kind, body, entry, quantity))?;
@@ -252,41 +288,42 @@ impl Play<'_> {
     /// Steps over all entries of a body, and once more.
     fn walk(&mut self, kind: u32, body: &[u8], written: bool) -> Result<(), Told> {
         let call = || format!("start {kind}");
-        let answer = same(
-            call,
-            self.first.start(kind, body),
-            self.second.start(kind, body),
-        )?;
-        self.table
-            .meet(Part::Positions, table::START, found(&answer));
-        let Found::Found(mut cursor) = answer else {
-            return Ok(());
-        };
-        while let Found::Found(step) = self.step(kind, body, cursor)? {
+        let first = self.first.start(kind, body);
+        let mut cursor = same(call, first, self.second.start(kind, body))?;
+        self.table.meet(Part::Positions, table::START, "found");
+        loop {
+            let step = self.step(kind, body, cursor)?;
+            let Found::Found(entry) = step.entry else {
+                return Ok(());
+            };
             let row = entry_row(kind == SNAPSHOT, written);
-            self.table.meet(Part::Entries, row, says(&step.entry));
+            self.table.meet(Part::Entries, row, says(&entry));
             cursor = step.next;
         }
-        Ok(())
     }
 
-    /// Steps over one entry.
-    fn step(&mut self, kind: u32, body: &[u8], cursor: Cursor) -> Result<Found<Step>, Told> {
-        let call = || format!("step {kind} {cursor:?}");
-        let first = self.first.step(kind, body, cursor);
-        let answer = same(call, first, self.second.step(kind, body, cursor))?;
+    /// Asks for the price of the entry at a cursor, and steps over it.
+    fn step(&mut self, kind: u32, body: &[u8], cursor: Cursor) -> Result<StepAnswer, Told> {
+        let (a, b) = (self.first, self.second);
+        let call = || format!("price at step {kind} {cursor:?}");
+        let first = lent_number(|price| a.step_price(kind, body, cursor, price));
+        let second = lent_number(|price| b.step_price(kind, body, cursor, price));
+        let (answer, _) = same(call, first, second)?;
         self.table
-            .meet(Part::Positions, table::STEP, found(&answer));
+            .meet(Part::Positions, table::STEP_PRICE, priced(answer));
+        let call = || format!("step {kind} {cursor:?}");
+        let answer = same(call, a.step(kind, body, cursor), b.step(kind, body, cursor))?;
+        self.table
+            .meet(Part::Positions, table::STEP, found(&answer.entry));
         Ok(answer)
     }
 
     /// Writes a frame, and steps over its entries.
     fn write(&mut self, draft: &Draft, pushed: Option<usize>, before: &[u8]) -> Result<(), Told> {
-        let (mut one, mut two) = (before.to_vec(), before.to_vec());
-        let first = self.first.write(draft, &mut one);
-        let second = self.second.write(draft, &mut two);
+        let (first, one) = lent(before, |output| self.first.write(draft, output));
+        let (second, two) = lent(before, |output| self.second.write(draft, output));
         let answer = same(|| "write".to_string(), first, second)?;
-        let one = same(|| "output of write".to_string(), Bytes(one), Bytes(two))?;
+        let output = same(|| "output of write".to_string(), one, two)?;
         let column = match answer {
             WriteAnswer::Refused(number) => refusal(number),
             WriteAnswer::Written(_) => "accepted",
@@ -297,7 +334,7 @@ impl Play<'_> {
         }
         match (answer, layout(draft.kind)) {
             (WriteAnswer::Written(size), Some(layout)) if layout.has_entries() => {
-                self.walk(draft.kind, &one.0[8..size - 4], true)
+                self.walk(draft.kind, &output.0[8..size - 4], true)
             }
             _ => Ok(()),
         }
@@ -357,13 +394,13 @@ impl Play<'_> {
         channel: u16,
         output: usize,
     ) -> Result<&'static str, Told> {
-        let (mut one, mut two) = (vec![MARKER; output], vec![MARKER; output]);
-        let first = self.first.request(tracker, channel, &mut one);
-        let second = self.second.request(tracker, channel, &mut two);
+        let before = vec![MARKER; output];
+        let (first, one) = lent(&before, |out| self.first.request(tracker, channel, out));
+        let (second, two) = lent(&before, |out| self.second.request(tracker, channel, out));
         let call = || format!("request {channel} on {tracker:?}");
         let answer = same(call, first, second)?;
         let call = || format!("output of request {channel} on {tracker:?}");
-        same(call, Bytes(one), Bytes(two))?;
+        same(call, one, two)?;
         Ok(match answer {
             RequestAnswer::Refused(number) => refusal(number),
             RequestAnswer::NothingMissing => "nothing",

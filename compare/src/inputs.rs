@@ -22,7 +22,7 @@ use bodies::{Made, Wish};
 use std::fmt;
 
 /// Made-up places of a cursor go up to this.
-const PLACE_LIMIT: u64 = u64::MAX;
+const PLACE_LIMIT: u64 = usize::MAX as u64;
 
 /// Positions to ask for.
 #[derive(Clone, Copy, PartialEq, Eq, Debug)]
@@ -35,7 +35,7 @@ pub struct Asked {
 #[derive(Clone, Copy, PartialEq, Eq, Debug)]
 pub enum Call {
     Tick { channel: u16, number: i64 },
-    Heartbeat { channel: u16, last: i64, end: bool },
+    Heartbeat { channel: u16, last: i64, end: u8 },
     Request { channel: u16, output: usize },
 }
 
@@ -259,7 +259,10 @@ impl Inputs {
             1 => u32::MAX - dice.below(2) as u32,
             _ => 1 + dice.below(9) as u32,
         };
-        Cursor { place, left }
+        Cursor {
+            place: place as usize,
+            left,
+        }
     }
 
     /// What the writer takes, with one field pushed over an end.

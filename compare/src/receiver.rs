@@ -86,6 +86,28 @@ pub enum Says {
     Unknown,
 }
 
+impl Says {
+    /// The price that it says, if any.
+    pub fn price(&self) -> Option<i64> {
+        match *self {
+            Says::Level { price, .. } | Says::Price { price } => Some(price),
+            Says::PriceAndSize { price, .. } => Some(price),
+            Says::LevelWithoutPrice { .. } | Says::Size { .. } => None,
+            Says::NoLimit | Says::Unknown => None,
+        }
+    }
+}
+
+/// The answer to a price asked for; the price goes to a lent number, which
+/// every other answer leaves as it stood.
+#[derive(Clone, Copy, PartialEq, Eq, Debug)]
+pub enum PriceAnswer {
+    Refused(u32),
+    NoSuchEntry,
+    NoPrice,
+    Price,
+}
+
 /// An entry: its two type characters, its shown count (0 in 309011) and what
 /// it says.
 #[derive(Clone, Copy, PartialEq, Eq, Debug)]
@@ -95,7 +117,7 @@ pub struct Entry {
     pub says: Says,
 }
 
-/// A group: of 390090, of 390013, or an entry of 300111 and 309011.
+/// A group of 390090 or of 390013.
 #[derive(Clone, Copy, PartialEq, Eq, Debug)]
 pub enum Group {
     Statistics {
@@ -107,21 +129,22 @@ pub enum Group {
         switch_type: u16,
         yes_no: u16,
     },
-    Entry(Entry),
 }
 
 /// A stepping cursor: the place of the next entry in the body, and the
-/// number of entries left.
+/// number of entries left. Its layout is the C header's.
+#[repr(C)]
 #[derive(Clone, Copy, PartialEq, Eq, Debug)]
 pub struct Cursor {
-    pub place: u64,
+    pub place: usize,
     pub left: u32,
 }
 
-/// A step's answer: the entry and the cursor behind it.
+/// A step's answer: the entry and the cursor behind it; without an entry the
+/// cursor as it stood.
 #[derive(Clone, Copy, PartialEq, Eq, Debug)]
-pub struct Step {
-    pub entry: Entry,
+pub struct StepAnswer {
+    pub entry: Found<Entry>,
     pub next: Cursor,
 }
 
@@ -143,11 +166,13 @@ pub enum WriteAnswer {
     Written(usize),
 }
 
-/// A tracker as plain arrays. Unused places are zero.
+/// A tracker as plain arrays. Unused places are zero. Its layout is the C
+/// header's.
+#[repr(C)]
 #[derive(Clone, Copy, PartialEq, Eq)]
 pub struct Tracker {
     /// How many channels there are.
-    pub count: u32,
+    pub count: usize,
     /// The channel numbers, strictly ascending.
     pub numbers: [u16; CHANNELS],
     /// Each channel's highest number.
@@ -155,7 +180,7 @@ pub struct Tracker {
     /// Each channel's ended mark, 0 or 1.
     pub ended: [u8; CHANNELS],
     /// How many runs of missing numbers each channel has.
-    pub counts: [u32; CHANNELS],
+    pub counts: [usize; CHANNELS],
     /// The first number of each run.
     pub first: [u64; PLACES],
     /// The last number of each run.
@@ -234,24 +259,33 @@ pub trait Receiver {
     fn read(&self, kind: u32, body: &[u8]) -> ReadAnswer;
 
     /// A group by position: 4 and 5 for the whole body, then "no such entry".
-    /// The groups of 300111 and 309011 are their entries.
+    /// The groups of 300111 and 309011 are asked for as entries, and none here.
     fn group(&self, kind: u32, body: &[u8], position: u32) -> Found<Group>;
 
     /// An entry of 300111 or 309011 by position: 4 and 5 for the whole body,
     /// then "no such entry". All other types have no entries.
     fn entry(&self, kind: u32, body: &[u8], position: u32) -> Found<Entry>;
 
+    /// The price of an entry by position: as `entry`, then "no price" where
+    /// the entry says none.
+    fn entry_price(&self, kind: u32, body: &[u8], position: u32, price: &mut i64) -> PriceAnswer;
+
     /// A shown quantity by the positions of entry and quantity: 4 and 5 for
     /// the whole body, then "no such entry" for either.
     fn quantity(&self, kind: u32, body: &[u8], entry: u32, position: u32) -> Found<i64>;
 
-    /// The cursor on the first entry: 4 and 5 for the whole body. A type
+    /// The cursor on the first entry. It judges nothing: where the body ends
+    /// in or before the count, the bytes that are there are the count. A type
     /// without entries has place 0 and 0 left.
-    fn start(&self, kind: u32, body: &[u8]) -> Found<Cursor>;
+    fn start(&self, kind: u32, body: &[u8]) -> Cursor;
 
     /// Steps over one entry: "no such entry" where none is left or the type
     /// has none; then 4 and 5 for this entry and its shown quantities.
-    fn step(&self, kind: u32, body: &[u8], cursor: Cursor) -> Found<Step>;
+    fn step(&self, kind: u32, body: &[u8], cursor: Cursor) -> StepAnswer;
+
+    /// The price of the entry at a cursor: as `step`, then "no price" where
+    /// the entry says none.
+    fn step_price(&self, kind: u32, body: &[u8], cursor: Cursor, price: &mut i64) -> PriceAnswer;
 
     /// Writes a frame: 5 for the type, then 4, 5, 2, 6.
     fn write(&self, draft: &Draft, output: &mut [u8]) -> WriteAnswer;
@@ -262,8 +296,8 @@ pub trait Receiver {
     /// A tick arrives: 10, 7, 8, 9.
     fn tick(&self, tracker: &Tracker, channel: u16, number: i64) -> ArrivalAnswer;
 
-    /// A channel heartbeat arrives: 10, 7, 8, 9.
-    fn heartbeat(&self, tracker: &Tracker, channel: u16, last: i64, end: bool) -> ArrivalAnswer;
+    /// A channel heartbeat arrives: 10, 7, 8, 9. End 0 is no, all else yes.
+    fn heartbeat(&self, tracker: &Tracker, channel: u16, last: i64, end: u8) -> ArrivalAnswer;
 
     /// Writes the request for the first run: 10, 7, nothing missing, 6.
     fn request(&self, tracker: &Tracker, channel: u16, output: &mut [u8]) -> RequestAnswer;

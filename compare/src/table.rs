@@ -235,16 +235,29 @@ fn writer() -> Section {
 /// Calls by position, rows of `Part::Positions`.
 pub const GROUP: usize = 0;
 pub const ENTRY: usize = 1;
-pub const QUANTITY: usize = 2;
-pub const START: usize = 3;
-pub const STEP: usize = 4;
+pub const ENTRY_PRICE: usize = 2;
+pub const QUANTITY: usize = 3;
+pub const START: usize = 4;
+pub const STEP: usize = 5;
+pub const STEP_PRICE: usize = 6;
 
 fn positions() -> Section {
-    let rows = named(&["group", "entry", "quantity", "start", "step"]);
-    let columns = ["found", "none", "4", "5"];
+    let rows = named(&[
+        "group",
+        "entry",
+        "entry price",
+        "quantity",
+        "start",
+        "step",
+        "step price",
+    ]);
+    let columns = ["found", "none", "no price", "4", "5"];
     Section::new("positions", rows, &columns, |row, column| {
         match (row, column) {
-            (START, "none") => Some("a cursor may have 0 left"),
+            (START, "found") => None,
+            (START, _) => Some("a start judges nothing"),
+            (ENTRY_PRICE | STEP_PRICE, _) => None,
+            (_, "no price") => Some("not an answer to this call"),
             _ => None,
         }
     })

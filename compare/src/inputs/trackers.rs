@@ -5,7 +5,7 @@ use super::{Call, Input};
 use crate::receiver::{Tracker, CHANNELS, PLACES, RUNS};
 
 /// Made-up counts go up to this.
-const COUNT_LIMIT: u64 = u32::MAX as u64;
+const COUNT_LIMIT: usize = usize::MAX;
 
 /// The highest number that there can be.
 const HIGHEST: u64 = i64::MAX as u64;
@@ -96,13 +96,18 @@ fn a_request(dice: &mut Dice, channel: u16) -> Call {
     Call::Request { channel, output }
 }
 
+/// An end: no, or one of the ways to say yes.
+fn an_end(dice: &mut Dice) -> u8 {
+    dice.pick(&[0, 0, 0, 0, 1, 1, 2, 255])
+}
+
 /// A tick or a channel heartbeat.
 fn an_arrival(dice: &mut Dice, channel: u16, number: i64) -> Call {
     if dice.one_in(4) {
         return Call::Heartbeat {
             channel,
             last: number,
-            end: dice.one_in(4),
+            end: an_end(dice),
         };
     }
     Call::Tick { channel, number }
@@ -159,7 +164,7 @@ fn full_table(dice: &mut Dice, channels: &[u16]) -> Vec<Call> {
         calls.push(Call::Heartbeat {
             channel,
             last: (ticks + 1) * step,
-            end: false,
+            end: 0,
         });
     }
     let mut above = ticks * step;
@@ -201,7 +206,7 @@ fn wide_runs(dice: &mut Dice, channels: &[u16]) -> Vec<Call> {
 /// A well-formed tracker with so many channels; each has so many runs.
 fn tracker(dice: &mut Dice, count: usize, least: usize, most: usize) -> Tracker {
     let mut tracker = Tracker::ZERO;
-    tracker.count = count as u32;
+    tracker.count = count;
     for (place, number) in channels(dice, count).into_iter().enumerate() {
         tracker.numbers[place] = number;
         tracker.ended[place] = dice.below(2) as u8;
@@ -216,7 +221,7 @@ fn tracker(dice: &mut Dice, count: usize, least: usize, most: usize) -> Tracker 
 fn add_runs(dice: &mut Dice, tracker: &mut Tracker, channel: usize, runs: usize) {
     let magnitude = dice.pick(&[1, 2, 8, 40, 57]);
     let mut free = 1;
-    tracker.counts[channel] = runs as u32;
+    tracker.counts[channel] = runs;
     for place in channel * RUNS..channel * RUNS + runs {
         let first = free + dice.below(1 << magnitude);
         let last = first + dice.below(1 << magnitude);
@@ -234,7 +239,7 @@ fn add_runs(dice: &mut Dice, tracker: &mut Tracker, channel: usize, runs: usize)
 
 /// Numbers around a channel's runs and highest number.
 fn telling_numbers(dice: &mut Dice, tracker: &Tracker) -> Vec<i64> {
-    let channel = dice.below(u64::from(tracker.count.clamp(1, 8))) as usize;
+    let channel = dice.below(tracker.count.clamp(1, 8) as u64) as usize;
     let highest = tracker.highest[channel] & HIGHEST;
     let mut numbers = vec![
         highest,
@@ -278,7 +283,7 @@ pub fn malformed(dice: &mut Dice, turn: u64) -> Input {
     spoil(dice, way, &mut tracker);
     let channel = a_channel(dice, &tracker.numbers[..count]);
     let number = dice.pick(&[1, 2, 5, 0, -1, i64::MIN, i64::MAX]);
-    let end = dice.one_in(2);
+    let end = an_end(dice);
     let calls = vec![
         Call::Tick { channel, number },
         Call::Heartbeat {
@@ -297,16 +302,14 @@ pub fn malformed(dice: &mut Dice, turn: u64) -> Input {
 
 /// Spoils a tracker of 2 to 7 channels with 2 to 31 runs each.
 fn spoil(dice: &mut Dice, way: usize, tracker: &mut Tracker) {
-    let count = tracker.count as usize;
+    let count = tracker.count;
     let unused = count + dice.below((CHANNELS - count) as u64) as usize;
     let used = dice.below(count as u64) as usize;
     match WAYS[way] {
         "all zero" => *tracker = Tracker::ZERO,
         "no channel" => tracker.count = 0,
         "more than 8 channels" => {
-            tracker.count = dice
-                .pick(&[9, 10, 16, 255, 256, COUNT_LIMIT])
-                .min(COUNT_LIMIT) as u32
+            tracker.count = dice.pick(&[9, 10, 16, 255, 256, 1 << 32, COUNT_LIMIT])
         }
         "channel numbers equal" => tracker.numbers[1] = tracker.numbers[0],
         "channel numbers descending" => tracker.numbers.swap(count - 2, count - 1),
@@ -314,7 +317,7 @@ fn spoil(dice: &mut Dice, way: usize, tracker: &mut Tracker) {
         "unused highest not zero" => tracker.highest[unused] = 1 + dice.wide() % HIGHEST,
         "unused ended mark not zero" => tracker.ended[unused] = 1,
         "unused run count not zero" => {
-            tracker.counts[unused] = dice.pick(&[1, 2, 32, 33, COUNT_LIMIT]) as u32
+            tracker.counts[unused] = dice.pick(&[1, 2, 32, 33, 1 << 32, COUNT_LIMIT])
         }
         "unused channel's run not zero" => {
             let place = unused * RUNS + dice.below(RUNS as u64) as usize;
@@ -325,7 +328,7 @@ fn spoil(dice: &mut Dice, way: usize, tracker: &mut Tracker) {
         }
         "ended mark neither 0 nor 1" => tracker.ended[used] = dice.pick(&[2, 3, 128, 255]),
         "more than 32 runs" => {
-            tracker.counts[used] = dice.pick(&[33, 34, 64, 255, 256, COUNT_LIMIT]) as u32
+            tracker.counts[used] = dice.pick(&[33, 34, 64, 255, 256, 1 << 32, COUNT_LIMIT])
         }
         _ => spoil_runs(dice, WAYS[way], tracker, used),
     }
@@ -333,7 +336,7 @@ fn spoil(dice: &mut Dice, way: usize, tracker: &mut Tracker) {
 
 /// Spoils the runs of a channel in use.
 fn spoil_runs(dice: &mut Dice, way: &str, tracker: &mut Tracker, used: usize) {
-    let runs = tracker.counts[used] as usize;
+    let runs = tracker.counts[used];
     let one = used * RUNS + dice.below(runs as u64 - 1) as usize;
     let unused = used * RUNS + runs + dice.below((RUNS - runs) as u64) as usize;
     match way {

@@ -2,10 +2,9 @@
 //! stepping cursor.
 
 use super::layout::{layout, width, Layout, INDEX};
-use super::record::{characters, count, group_end, group_in_range, judge, number, place_of};
-use super::record::{shown_count, two};
+use super::record::{characters, group_end, group_in_range, number, place_of, shown_count, two};
 use super::rules::Rules;
-use crate::receiver::{Cursor, Entry, Found, Says, Step};
+use crate::receiver::{Cursor, Entry, Found, PriceAnswer, Says, StepAnswer};
 
 /// An entry by position: 4 and 5 for the whole body, then "no such entry".
 pub fn entry(rules: &Rules, kind: u32, body: &[u8], position: u32) -> Found<Entry> {
@@ -45,25 +44,61 @@ fn entry_place(rules: &Rules, layout: &Layout, body: &[u8], position: u32) -> Fo
     }
 }
 
-/// The cursor on the first entry: 4 and 5 for the whole body.
-pub fn start(rules: &Rules, kind: u32, body: &[u8]) -> Found<Cursor> {
-    let Some(layout) = layout(kind) else {
-        return Found::Found(Cursor { place: 0, left: 0 });
-    };
-    if let Err(refusal) = judge(rules, layout, body) {
-        return Found::Refused(refusal);
+/// The cursor on the first entry, for any body at all.
+pub fn start(kind: u32, body: &[u8]) -> Cursor {
+    match layout(kind) {
+        Some(layout) if layout.has_entries() => {
+            let fixed = layout.fixed();
+            let bytes = &body[..body.len().min(fixed)];
+            let count = bytes.get(fixed - 4..).unwrap_or(&[]);
+            Cursor {
+                place: fixed,
+                left: number(count) as u32,
+            }
+        }
+        _ => Cursor { place: 0, left: 0 },
     }
-    if !layout.has_entries() {
-        return Found::Found(Cursor { place: 0, left: 0 });
-    }
-    Found::Found(Cursor {
-        place: layout.fixed() as u64,
-        left: count(layout, body),
-    })
 }
 
-/// Steps over the entry at the cursor, whatever cursor it is.
-pub fn step(rules: &Rules, kind: u32, body: &[u8], cursor: Cursor) -> Found<Step> {
+/// Steps over the entry at the cursor, whatever cursor it is. Without an
+/// entry the cursor stays.
+pub fn step(rules: &Rules, kind: u32, body: &[u8], cursor: Cursor) -> StepAnswer {
+    match entry_at_cursor(rules, kind, body, cursor) {
+        Found::Found((entry, end)) => StepAnswer {
+            entry: Found::Found(entry),
+            next: Cursor {
+                place: end,
+                left: cursor.left - 1,
+            },
+        },
+        Found::NoSuchEntry => StepAnswer {
+            entry: Found::NoSuchEntry,
+            next: cursor,
+        },
+        Found::Refused(refusal) => StepAnswer {
+            entry: Found::Refused(refusal),
+            next: cursor,
+        },
+    }
+}
+
+/// The price that an entry says, to the lent number.
+pub fn give_price(found: Found<Entry>, lent: &mut i64) -> PriceAnswer {
+    match found {
+        Found::Refused(refusal) => PriceAnswer::Refused(refusal),
+        Found::NoSuchEntry => PriceAnswer::NoSuchEntry,
+        Found::Found(entry) => match entry.says.price() {
+            None => PriceAnswer::NoPrice,
+            Some(price) => {
+                *lent = price;
+                PriceAnswer::Price
+            }
+        },
+    }
+}
+
+/// The entry at a cursor and the place behind it.
+fn entry_at_cursor(rules: &Rules, kind: u32, body: &[u8], cursor: Cursor) -> Found<(Entry, usize)> {
     let Some(layout) = layout(kind) else {
         return Found::NoSuchEntry;
     };
@@ -72,13 +107,7 @@ pub fn step(rules: &Rules, kind: u32, body: &[u8], cursor: Cursor) -> Found<Step
     }
     match judged_entry(rules, layout, body, cursor.place) {
         Err(refusal) => Found::Refused(refusal),
-        Ok((entry, end)) => Found::Found(Step {
-            entry,
-            next: Cursor {
-                place: end as u64,
-                left: cursor.left - 1,
-            },
-        }),
+        Ok(entry) => Found::Found(entry),
     }
 }
 
@@ -88,10 +117,10 @@ fn judged_entry(
     rules: &Rules,
     layout: &Layout,
     body: &[u8],
-    place: u64,
+    place: usize,
 ) -> Result<(Entry, usize), u32> {
     let end = group_end(layout, body, place)?;
-    let bytes = &body[place as usize..end];
+    let bytes = &body[place..end];
     group_in_range(rules, layout, bytes)?;
     Ok((entry_at(rules, layout, bytes), end))
 }

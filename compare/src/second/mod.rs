@@ -12,8 +12,8 @@ pub mod tracker;
 pub mod writer;
 
 use crate::receiver::{
-    ArrivalAnswer, Cursor, Draft, Entry, Found, FrameAnswer, Group, ReadAnswer, Receiver,
-    RequestAnswer, SetUpAnswer, Step, Tracker, WriteAnswer,
+    ArrivalAnswer, Cursor, Draft, Entry, Found, FrameAnswer, Group, PriceAnswer, ReadAnswer,
+    Receiver, RequestAnswer, SetUpAnswer, StepAnswer, Tracker, WriteAnswer,
 };
 use rules::Rules;
 
@@ -39,16 +39,24 @@ impl Receiver for Second {
         entry::entry(&self.rules, kind, body, position)
     }
 
+    fn entry_price(&self, kind: u32, body: &[u8], position: u32, price: &mut i64) -> PriceAnswer {
+        entry::give_price(self.entry(kind, body, position), price)
+    }
+
     fn quantity(&self, kind: u32, body: &[u8], entry: u32, position: u32) -> Found<i64> {
         entry::quantity(&self.rules, kind, body, entry, position)
     }
 
-    fn start(&self, kind: u32, body: &[u8]) -> Found<Cursor> {
-        entry::start(&self.rules, kind, body)
+    fn start(&self, kind: u32, body: &[u8]) -> Cursor {
+        entry::start(kind, body)
     }
 
-    fn step(&self, kind: u32, body: &[u8], cursor: Cursor) -> Found<Step> {
+    fn step(&self, kind: u32, body: &[u8], cursor: Cursor) -> StepAnswer {
         entry::step(&self.rules, kind, body, cursor)
+    }
+
+    fn step_price(&self, kind: u32, body: &[u8], cursor: Cursor, price: &mut i64) -> PriceAnswer {
+        entry::give_price(self.step(kind, body, cursor).entry, price)
     }
 
     fn write(&self, draft: &Draft, output: &mut [u8]) -> WriteAnswer {
@@ -63,7 +71,7 @@ impl Receiver for Second {
         tracker::tick(&self.rules, tracker, channel, number)
     }
 
-    fn heartbeat(&self, tracker: &Tracker, channel: u16, last: i64, end: bool) -> ArrivalAnswer {
+    fn heartbeat(&self, tracker: &Tracker, channel: u16, last: i64, end: u8) -> ArrivalAnswer {
         tracker::heartbeat(&self.rules, tracker, channel, last, end)
     }
 

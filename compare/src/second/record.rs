@@ -1,6 +1,5 @@
 //! Records: the listed types with their ranges, and groups by position.
 
-use super::entry;
 use super::frame::four;
 use super::layout::{layout, width, Field, Layout, QUANTITY, SECURITY_STATUS, STATISTICS};
 use super::rules::Rules;
@@ -44,20 +43,20 @@ pub fn count(layout: &Layout, body: &[u8]) -> u32 {
 pub fn groups_end(layout: &Layout, bytes: &[u8], from: usize, count: u32) -> Result<usize, u32> {
     let mut place = from;
     for _ in 0..count {
-        place = group_end(layout, bytes, place as u64)?;
+        place = group_end(layout, bytes, place)?;
     }
     Ok(place)
 }
 
 /// The place behind the group at a place, its shown quantities included; 4
 /// where there are too few bytes.
-pub fn group_end(layout: &Layout, bytes: &[u8], place: u64) -> Result<usize, u32> {
+pub fn group_end(layout: &Layout, bytes: &[u8], place: usize) -> Result<usize, u32> {
     let length = bytes.len() as u128;
-    let fields_end = u128::from(place) + width(layout.group) as u128;
+    let fields_end = place as u128 + width(layout.group) as u128;
     if fields_end > length {
         return Err(4);
     }
-    let shown = shown_count(layout, bytes, place as usize);
+    let shown = shown_count(layout, bytes, place);
     let end = fields_end + 8 * u128::from(shown);
     if end > length {
         return Err(4);
@@ -83,7 +82,7 @@ pub fn groups_in_range(
 ) -> Result<(), u32> {
     let mut place = from;
     for _ in 0..count {
-        let end = group_end(layout, bytes, place as u64)?;
+        let end = group_end(layout, bytes, place)?;
         group_in_range(rules, layout, &bytes[place..end])?;
         place = end;
     }
@@ -165,7 +164,7 @@ pub fn place_of(rules: &Rules, layout: &Layout, body: &[u8], position: u32) -> F
     }
 }
 
-/// A group by position. An unknown type has none.
+/// A group of 390090 or 390013 by position. All other types have none.
 pub fn group(rules: &Rules, kind: u32, body: &[u8], position: u32) -> Found<Group> {
     let Some(layout) = layout(kind) else {
         return Found::NoSuchEntry;
@@ -173,23 +172,23 @@ pub fn group(rules: &Rules, kind: u32, body: &[u8], position: u32) -> Found<Grou
     match place_of(rules, layout, body, position) {
         Found::Refused(refusal) => Found::Refused(refusal),
         Found::NoSuchEntry => Found::NoSuchEntry,
-        Found::Found(place) => Found::Found(group_at(rules, layout, &body[place..])),
+        Found::Found(place) => group_at(layout, &body[place..]),
     }
 }
 
 /// The group at the beginning of the bytes.
-fn group_at(rules: &Rules, layout: &Layout, bytes: &[u8]) -> Group {
+fn group_at(layout: &Layout, bytes: &[u8]) -> Found<Group> {
     match layout.kind {
-        STATISTICS => Group::Statistics {
+        STATISTICS => Found::Found(Group::Statistics {
             stream: characters(&bytes[..3]),
             stock_number: four(bytes, 3),
             phase: characters(&bytes[7..15]),
-        },
-        SECURITY_STATUS => Group::SecurityStatus {
+        }),
+        SECURITY_STATUS => Found::Found(Group::SecurityStatus {
             switch_type: two(bytes, 0),
             yes_no: two(bytes, 2),
-        },
-        _ => Group::Entry(entry::entry_at(rules, layout, bytes)),
+        }),
+        _ => Found::NoSuchEntry,
     }
 }
 

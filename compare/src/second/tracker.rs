@@ -21,7 +21,7 @@ pub fn set_up(rules: &Rules, channels: &[u16]) -> SetUpAnswer {
         };
     }
     let mut tracker = Tracker::ZERO;
-    tracker.count = channels.len() as u32;
+    tracker.count = channels.len();
     for (place, number) in channels.iter().enumerate() {
         tracker.numbers[place] = *number;
         tracker.highest[place] = rules.first_number - 1;
@@ -41,7 +41,7 @@ fn good_list(rules: &Rules, channels: &[u16]) -> bool {
 
 /// Whether a tracker keeps the rules.
 fn well_formed(rules: &Rules, tracker: &Tracker) -> bool {
-    let count = tracker.count as usize;
+    let count = tracker.count;
     count <= CHANNELS
         && good_list(rules, &tracker.numbers[..count])
         && (0..count).all(|channel| channel_holds(rules, tracker, channel))
@@ -50,7 +50,7 @@ fn well_formed(rules: &Rules, tracker: &Tracker) -> bool {
 
 /// Whether a channel in use keeps the rules.
 fn channel_holds(rules: &Rules, tracker: &Tracker, channel: usize) -> bool {
-    let count = tracker.counts[channel] as usize;
+    let count = tracker.counts[channel];
     let highest = tracker.highest[channel];
     if count > rules.runs || tracker.ended[channel] > 1 {
         return false;
@@ -82,7 +82,7 @@ fn run_at(tracker: &Tracker, channel: usize, place: usize) -> Run {
 
 /// A channel's runs in use.
 fn runs_of(tracker: &Tracker, channel: usize) -> Vec<Run> {
-    let count = tracker.counts[channel] as usize;
+    let count = tracker.counts[channel];
     (0..count)
         .map(|place| run_at(tracker, channel, place))
         .collect()
@@ -99,7 +99,7 @@ fn with_runs(
         return Err(9);
     }
     let mut next = *tracker;
-    next.counts[channel] = runs.len() as u32;
+    next.counts[channel] = runs.len();
     for place in 0..RUNS {
         let run = runs.get(place).copied().unwrap_or((0, 0));
         next.first[channel * RUNS + place] = run.0;
@@ -113,7 +113,7 @@ fn place_of(rules: &Rules, tracker: &Tracker, channel: u16) -> Result<usize, u32
     if !well_formed(rules, tracker) {
         return Err(10);
     }
-    let used = &tracker.numbers[..tracker.count as usize];
+    let used = &tracker.numbers[..tracker.count];
     used.iter().position(|number| *number == channel).ok_or(7)
 }
 
@@ -198,7 +198,7 @@ pub fn heartbeat(
     tracker: &Tracker,
     channel: u16,
     last: i64,
-    end: bool,
+    end: u8,
 ) -> ArrivalAnswer {
     answer(tracker, judge_heartbeat(rules, tracker, channel, last, end))
 }
@@ -209,7 +209,7 @@ fn judge_heartbeat(
     tracker: &Tracker,
     channel: u16,
     last: i64,
-    end: bool,
+    end: u8,
 ) -> Result<(Verdict, Tracker), u32> {
     let place = place_of(rules, tracker, channel)?;
     if last < rules.reference_from {
@@ -221,7 +221,7 @@ fn judge_heartbeat(
         next = with_missing(rules, tracker, place, last)?;
         next.highest[place] = last;
     }
-    if end {
+    if end != 0 {
         next.ended[place] = 1;
     }
     Ok((Verdict::Heard, next))

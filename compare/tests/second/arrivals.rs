@@ -31,7 +31,7 @@ impl Played {
     }
 
     /// A channel heartbeat; a refusal gives the tracker back.
-    fn heartbeat(&mut self, last: i64, end: bool) -> Verdict {
+    fn heartbeat(&mut self, last: i64, end: u8) -> Verdict {
         let answer = second().heartbeat(&self.tracker, CHANNEL, last, end);
         if let Verdict::Refused(_) = answer.verdict {
             assert_eq!(answer.next, self.tracker);
@@ -42,7 +42,7 @@ impl Played {
 
     /// The runs, and zeros behind them.
     fn missing(&self) -> Vec<(u64, u64)> {
-        let count = self.tracker.counts[0] as usize;
+        let count = self.tracker.counts[0];
         assert!(self.tracker.first[count..].iter().all(|place| *place == 0));
         assert!(self.tracker.last[count..].iter().all(|place| *place == 0));
         let runs = self
@@ -65,7 +65,7 @@ fn ticks_1_2_5_in_two_orders() {
         assert_eq!(played.missing(), [(3, 4)]);
         assert_eq!(played.tick(3), Verdict::Late);
         assert_eq!(played.missing(), [(4, 4)]);
-        assert_eq!(played.heartbeat(7, false), Verdict::Heard);
+        assert_eq!(played.heartbeat(7, 0), Verdict::Heard);
         assert_eq!(played.missing(), [(4, 4), (6, 7)]);
         assert_eq!(played.tracker.highest[0], 7);
     }
@@ -78,15 +78,15 @@ fn duplicate_and_below_range() {
     assert_eq!(played.tick(5), Verdict::Duplicate);
     assert_eq!(played.tick(0), Verdict::Refused(8));
     assert_eq!(played.tick(-1), Verdict::Refused(8));
-    assert_eq!(played.heartbeat(-1, true), Verdict::Refused(8));
-    assert_eq!(played.heartbeat(0, false), Verdict::Heard);
+    assert_eq!(played.heartbeat(-1, 1), Verdict::Refused(8));
+    assert_eq!(played.heartbeat(0, 0), Verdict::Heard);
     assert_eq!(played.missing(), [(1, 4)]);
 }
 
 #[test]
 fn last_number_0_is_accepted() {
     let mut played = Played::new();
-    assert_eq!(played.heartbeat(0, false), Verdict::Heard);
+    assert_eq!(played.heartbeat(0, 0), Verdict::Heard);
     assert_eq!(played.tracker, Played::new().tracker);
 }
 
@@ -95,7 +95,7 @@ fn first_tick_is_the_highest_number() {
     let mut played = Played::new();
     assert_eq!(played.tick(HIGHEST), Verdict::New);
     assert_eq!(played.missing(), [(1, HIGHEST as u64 - 1)]);
-    assert_eq!(played.heartbeat(HIGHEST, true), Verdict::Heard);
+    assert_eq!(played.heartbeat(HIGHEST, 1), Verdict::Heard);
     assert_eq!(played.tick(HIGHEST), Verdict::Duplicate);
 }
 
@@ -111,7 +111,7 @@ fn full() -> Played {
 fn a_33rd_run_is_9() {
     let mut played = full();
     assert_eq!(played.tick(66), Verdict::Refused(9));
-    assert_eq!(played.heartbeat(66, true), Verdict::Refused(9));
+    assert_eq!(played.heartbeat(66, 1), Verdict::Refused(9));
     assert_eq!(played.tracker.ended[0], 0);
     assert_eq!(played.tick(65), Verdict::New);
     assert_eq!(played.tick(1), Verdict::Late);
@@ -134,11 +134,11 @@ fn a_split_of_a_full_table_is_9() {
 fn a_run_that_ends_at_the_highest_grows() {
     let mut played = Played::new();
     played.tick(3);
-    played.heartbeat(7, false);
+    played.heartbeat(7, 0);
     assert_eq!(played.tick(11), Verdict::New);
     assert_eq!(played.missing(), [(1, 2), (4, 10)]);
-    played.heartbeat(13, false);
-    played.heartbeat(20, false);
+    played.heartbeat(13, 0);
+    played.heartbeat(20, 0);
     assert_eq!(played.missing(), [(1, 2), (4, 10), (12, 20)]);
 }
 
@@ -146,12 +146,12 @@ fn a_run_that_ends_at_the_highest_grows() {
 fn a_full_table_takes_what_needs_no_run() {
     let mut played = Played::new();
     (1..=31).for_each(|half| assert_eq!(played.tick(2 * half), Verdict::New));
-    played.heartbeat(70, false);
+    played.heartbeat(70, 0);
     assert_eq!(played.missing().len(), 32);
-    assert_eq!(played.heartbeat(90, true), Verdict::Heard);
+    assert_eq!(played.heartbeat(90, 1), Verdict::Heard);
     assert_eq!(played.tick(100), Verdict::New);
     assert_eq!(played.missing()[31], (63, 99));
-    assert_eq!(played.heartbeat(50, false), Verdict::Heard);
+    assert_eq!(played.heartbeat(50, 0), Verdict::Heard);
     assert_eq!(played.tracker.ended[0], 1);
 }
 
@@ -169,9 +169,9 @@ fn late_number_leaves_its_run() {
 #[test]
 fn end_mark_stays() {
     let mut played = Played::new();
-    played.heartbeat(0, true);
+    played.heartbeat(0, 1);
     assert_eq!(played.tracker.ended[0], 1);
-    played.heartbeat(3, false);
+    played.heartbeat(3, 0);
     assert_eq!(played.tick(2), Verdict::Late);
     assert_eq!(played.tracker.ended[0], 1);
 }
@@ -201,7 +201,7 @@ fn channel_not_in_the_tracker_is_7() {
     );
     assert_eq!(second().tick(&tracker, 0, 1).verdict, Verdict::Refused(7));
     assert_eq!(
-        second().heartbeat(&tracker, 2012, -1, true).verdict,
+        second().heartbeat(&tracker, 2012, -1, 1).verdict,
         Verdict::Refused(7)
     );
     let next = second().tick(&tracker, 2013, 2).next;

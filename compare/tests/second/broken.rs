@@ -4,8 +4,8 @@
 use super::second;
 use compare::compare::compare;
 use compare::receiver::{
-    ArrivalAnswer, Cursor, Draft, Entry, Found, FrameAnswer, Group, ReadAnswer, Receiver, Record,
-    RequestAnswer, SetUpAnswer, Step, Tracker, Verdict, WriteAnswer,
+    ArrivalAnswer, Cursor, Draft, Entry, Found, FrameAnswer, Group, PriceAnswer, ReadAnswer,
+    Receiver, Record, RequestAnswer, SetUpAnswer, StepAnswer, Tracker, Verdict, WriteAnswer,
 };
 use compare::second::rules::Rules;
 use compare::second::Second;
@@ -98,9 +98,13 @@ enum How {
     RefusalSetsTheMark,
     PositionBeforeRefusal,
     StepsTooFar,
+    RefusedStepMoves,
+    PriceWhereThereIsNone,
+    NumberChangedOnNoPrice,
+    EndsOnOneOnly,
 }
 
-const ALL: [How; 13] = [
+const ALL: [How; 17] = [
     How::RefusesEveryFrame,
     How::AnswersHeartbeatAlways,
     How::MadeUpFrameLength,
@@ -114,6 +118,10 @@ const ALL: [How; 13] = [
     How::RefusalSetsTheMark,
     How::PositionBeforeRefusal,
     How::StepsTooFar,
+    How::RefusedStepMoves,
+    How::PriceWhereThereIsNone,
+    How::NumberChangedOnNoPrice,
+    How::EndsOnOneOnly,
 ];
 
 /// The second program, broken in one way.
@@ -125,6 +133,18 @@ struct Broken {
 impl Broken {
     fn is(&self, how: How) -> bool {
         self.how == how
+    }
+
+    /// A price asked for, broken.
+    fn priced(&self, answer: PriceAnswer, price: &mut i64) -> PriceAnswer {
+        match (self.how, answer) {
+            (How::PriceWhereThereIsNone, PriceAnswer::NoPrice) => PriceAnswer::Price,
+            (How::NumberChangedOnNoPrice, PriceAnswer::NoPrice) => {
+                *price = 0;
+                answer
+            }
+            _ => answer,
+        }
     }
 }
 
@@ -170,18 +190,28 @@ impl Receiver for Broken {
         self.second.quantity(kind, body, entry, position)
     }
 
-    fn start(&self, kind: u32, body: &[u8]) -> Found<Cursor> {
+    fn entry_price(&self, kind: u32, body: &[u8], position: u32, price: &mut i64) -> PriceAnswer {
+        let answer = self.second.entry_price(kind, body, position, price);
+        self.priced(answer, price)
+    }
+
+    fn start(&self, kind: u32, body: &[u8]) -> Cursor {
         self.second.start(kind, body)
     }
 
-    fn step(&self, kind: u32, body: &[u8], cursor: Cursor) -> Found<Step> {
-        match (self.how, self.second.step(kind, body, cursor)) {
-            (How::StepsTooFar, Found::Found(mut step)) => {
-                step.next.left = cursor.left;
-                Found::Found(step)
-            }
-            (_, answer) => answer,
+    fn step(&self, kind: u32, body: &[u8], cursor: Cursor) -> StepAnswer {
+        let mut answer = self.second.step(kind, body, cursor);
+        match (self.how, answer.entry) {
+            (How::StepsTooFar, Found::Found(_)) => answer.next.left = cursor.left,
+            (How::RefusedStepMoves, Found::Refused(_)) => answer.next.left -= 1,
+            _ => {}
         }
+        answer
+    }
+
+    fn step_price(&self, kind: u32, body: &[u8], cursor: Cursor, price: &mut i64) -> PriceAnswer {
+        let answer = self.second.step_price(kind, body, cursor, price);
+        self.priced(answer, price)
     }
 
     fn write(&self, draft: &Draft, output: &mut [u8]) -> WriteAnswer {
@@ -223,9 +253,13 @@ impl Receiver for Broken {
         answer
     }
 
-    fn heartbeat(&self, tracker: &Tracker, channel: u16, last: i64, end: bool) -> ArrivalAnswer {
+    fn heartbeat(&self, tracker: &Tracker, channel: u16, last: i64, end: u8) -> ArrivalAnswer {
+        let end = match self.how {
+            How::EndsOnOneOnly => u8::from(end == 1),
+            _ => end,
+        };
         let mut answer = self.second.heartbeat(tracker, channel, last, end);
-        if self.is(How::RefusalSetsTheMark) && answer.verdict == Verdict::Refused(9) && end {
+        if self.is(How::RefusalSetsTheMark) && answer.verdict == Verdict::Refused(9) && end != 0 {
             answer.next.ended[0] = 1;
         }
         answer

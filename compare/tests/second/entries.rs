@@ -1,7 +1,7 @@
 //! Document 01's cases of entries, and the stepping cursor.
 
 use super::{hex, second};
-use compare::receiver::{Cursor, Entry, Found, Group, ReadAnswer, Receiver, Says};
+use compare::receiver::{Cursor, Entry, Found, PriceAnswer, ReadAnswer, Receiver, Says};
 
 const SNAPSHOT: u32 = 300111;
 const INDEX: u32 = 309011;
@@ -79,10 +79,7 @@ fn auction_levels() {
     };
     assert_eq!(second().entry(SNAPSHOT, &body, 1), Found::Found(other));
     assert_eq!(second().entry(SNAPSHOT, &body, 2), Found::NoSuchEntry);
-    assert_eq!(
-        second().group(SNAPSHOT, &body, 1),
-        Found::Found(Group::Entry(other))
-    );
+    assert_eq!(second().group(SNAPSHOT, &body, 1), Found::NoSuchEntry);
 }
 
 #[test]
@@ -174,7 +171,11 @@ fn fields_without_meaning_obey_their_ranges() {
         let body = snapshot(&[good, each]);
         assert_eq!(second().read(SNAPSHOT, &body), ReadAnswer::Refused(5));
         assert_eq!(second().entry(SNAPSHOT, &body, 0), Found::Refused(5));
-        assert_eq!(second().start(SNAPSHOT, &body), Found::Refused(5));
+        let start = second().start(SNAPSHOT, &body);
+        let step = second().step(SNAPSHOT, &body, start);
+        let next = second().step(SNAPSHOT, &body, step.next);
+        assert!(matches!(step.entry, Found::Found(_)));
+        assert_eq!((next.entry, next.next), (Found::Refused(5), step.next));
         assert_eq!(
             second().read(SNAPSHOT, &body[..body.len() - 1]),
             ReadAnswer::Refused(4)
@@ -199,51 +200,87 @@ fn cursor_steps_over_all_entries() {
         entry(b"0 ", 5, 6, 1, &[1, 2, 3]),
         entry(b"zz", 5, 6, 1, &[]),
     ]);
-    let start = second().start(SNAPSHOT, &body);
-    assert_eq!(start, Found::Found(Cursor { place: 69, left: 2 }));
-    let Found::Found(one) = second().step(SNAPSHOT, &body, Cursor { place: 69, left: 2 }) else {
-        panic!("no first step");
-    };
-    assert_eq!(
-        (one.entry.shown, one.next),
-        (
-            3,
-            Cursor {
-                place: 125,
-                left: 1
-            }
-        )
+    let cursor = |place, left| Cursor { place, left };
+    let step = |at| second().step(SNAPSHOT, &body, at);
+    assert_eq!(second().start(SNAPSHOT, &body), cursor(69, 2));
+    let (one, two, end) = (
+        step(cursor(69, 2)),
+        step(cursor(125, 1)),
+        step(cursor(157, 0)),
     );
-    let Found::Found(two) = second().step(SNAPSHOT, &body, one.next) else {
-        panic!("no second step");
+    assert_eq!(one.next, cursor(125, 1));
+    assert!(matches!(one.entry, Found::Found(Entry { shown: 3, .. })));
+    assert_eq!(two.next, cursor(157, 0));
+    let unknown = Entry {
+        kind: *b"zz",
+        shown: 0,
+        says: Says::Unknown,
     };
-    assert_eq!(
-        (two.entry.says, two.next),
-        (
-            Says::Unknown,
-            Cursor {
-                place: 157,
-                left: 0
-            }
-        )
-    );
-    assert_eq!(second().step(SNAPSHOT, &body, two.next), Found::NoSuchEntry);
+    assert_eq!(two.entry, Found::Found(unknown));
+    assert_eq!((end.entry, end.next), (Found::NoSuchEntry, cursor(157, 0)));
 }
 
 #[test]
 fn made_up_cursors_are_answered() {
     let body = snapshot(&[entry(b"0 ", -1, 6, 1, &[]), entry(b"0 ", 5, -6, 1, &[])]);
-    let step = |place, left| second().step(SNAPSHOT, &body, Cursor { place, left });
+    let step = |place, left| {
+        let at = Cursor { place, left };
+        let answer = second().step(SNAPSHOT, &body, at);
+        assert!(matches!(answer.entry, Found::Found(_)) || answer.next == at);
+        answer.entry
+    };
     assert!(matches!(step(69, 9), Found::Found(_)));
     assert_eq!(step(101, 1), Found::Refused(5));
     assert_eq!(step(102, 1), Found::Refused(4));
-    assert_eq!(step(u64::MAX, 1), Found::Refused(4));
-    assert_eq!(step(u64::MAX, 0), Found::NoSuchEntry);
-    let none = Cursor { place: 0, left: 0 };
-    assert_eq!(second().start(3, &[]), Found::Found(none));
-    assert_eq!(second().start(7, &[1]), Found::Found(none));
-    assert_eq!(
-        second().step(3, &[], Cursor { place: 0, left: 1 }),
-        Found::NoSuchEntry
-    );
+    assert_eq!(step(usize::MAX, 1), Found::Refused(4));
+    assert_eq!(step(usize::MAX, 0), Found::NoSuchEntry);
+}
+
+#[test]
+fn a_start_judges_nothing() {
+    let body = head(0x01020304);
+    let start = |kind, length: usize| second().start(kind, &body[..length]);
+    let at = |place, left| Cursor { place, left };
+    assert_eq!(start(SNAPSHOT, 69), at(69, 0x01020304));
+    assert_eq!(start(INDEX, 68), at(69, 0x010203));
+    assert_eq!(start(INDEX, 66), at(69, 0x01));
+    assert_eq!(start(SNAPSHOT, 65), at(69, 0));
+    assert_eq!(start(SNAPSHOT, 0), at(69, 0));
+    assert_eq!((start(3, 0), start(7, 1)), (at(0, 0), at(0, 0)));
+    let step = second().step(3, &[], at(0, 1));
+    assert_eq!((step.entry, step.next), (Found::NoSuchEntry, at(0, 1)));
+}
+
+#[test]
+fn where_there_is_no_price_the_lent_number_stays() {
+    let body = snapshot(&[
+        entry(b"0 ", 5, 6, 1, &[]),
+        entry(b"0 ", 0, 6, 2, &[]),
+        entry(b"xg", 5, 6, 0, &[]),
+        entry(b"xe", MARK, 0, 0, &[]),
+        entry(b"zz", 5, 6, 0, &[]),
+    ]);
+    for (position, answer, left) in [
+        (0, PriceAnswer::Price, 5),
+        (1, PriceAnswer::NoPrice, -7),
+        (2, PriceAnswer::NoPrice, -7),
+        (3, PriceAnswer::NoPrice, -7),
+        (4, PriceAnswer::NoPrice, -7),
+        (5, PriceAnswer::NoSuchEntry, -7),
+    ] {
+        let mut price = -7;
+        let told = second().entry_price(SNAPSHOT, &body, position, &mut price);
+        assert_eq!((told, price), (answer, left));
+        let at = Cursor {
+            place: 69 + 32 * position as usize,
+            left: 5 - position,
+        };
+        let mut price = -7;
+        let told = second().step_price(SNAPSHOT, &body, at, &mut price);
+        assert_eq!((told, price), (answer, left));
+    }
+    let mut price = -7;
+    let short = &body[..body.len() - 1];
+    let told = second().entry_price(SNAPSHOT, short, 0, &mut price);
+    assert_eq!((told, price), (PriceAnswer::Refused(4), -7));
 }

@@ -181,18 +181,18 @@ fn group_text(group: &Group) -> String {
         } => {
             format!("switch type {switch_type}, yes/no {yes_no}")
         }
-        Group::Entry(entry) => panic!("an entry as a group: {entry:?}"),
     }
 }
 
 /// The lines of entries, by the cursor; by position each is the same.
 fn entry_lines(receiver: &dyn Receiver, rules: &Rules, kind: u32, body: &[u8]) -> String {
-    let Found::Found(mut cursor) = receiver.start(kind, body) else {
-        panic!("no cursor for an accepted body");
-    };
+    let mut cursor = receiver.start(kind, body);
     let (mut text, mut position) = (String::new(), 0);
-    while let Found::Found(step) = receiver.step(kind, body, cursor) {
-        let entry = step.entry;
+    loop {
+        let step = receiver.step(kind, body, cursor);
+        let Found::Found(entry) = step.entry else {
+            break;
+        };
         assert_eq!(receiver.entry(kind, body, position), Found::Found(entry));
         let said = said(rules, &entry);
         text += &format!("  entry {position}: type {}, {said}", quoted(&entry.kind));
