@@ -1,6 +1,7 @@
 //! A second opinion on document 01: an independent second program, inputs
 //! for two receivers, and their comparison.
 
+pub mod board;
 pub mod compare;
 pub mod inputs;
 pub mod receiver;

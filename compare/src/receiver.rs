@@ -108,8 +108,8 @@ pub enum PriceAnswer {
     Price,
 }
 
-/// An entry: its two type characters, its shown count (0 in 309011) and what
-/// it says.
+/// An entry: its two type characters, a level's shown count, which is 0 for
+/// all that is no level, and what it says.
 #[derive(Clone, Copy, PartialEq, Eq, Debug)]
 pub struct Entry {
     pub kind: [u8; 2],

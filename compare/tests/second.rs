@@ -1,6 +1,9 @@
-//! The second program by itself: document 01's cases, the samples, and the
-//! comparison of the second program with itself and with broken ones.
+//! The second program by itself, with document 01's cases; the samples; the
+//! comparison of the product, and of broken receivers, with the second
+//! program; the C header.
 
+#[path = "second/agreed.rs"]
+mod agreed;
 #[path = "second/arrivals.rs"]
 mod arrivals;
 #[path = "second/broken.rs"]
@@ -9,8 +12,8 @@ mod broken;
 mod entries;
 #[path = "second/frames.rs"]
 mod frames;
-#[path = "second/itself.rs"]
-mod itself;
+#[path = "second/header.rs"]
+mod header;
 #[path = "second/samples.rs"]
 mod samples;
 #[path = "second/text.rs"]

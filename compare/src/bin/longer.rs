@@ -1,6 +1,8 @@
-//! A longer run: `longer INPUTS SEED`. It prints the table, and fails on a
+//! A longer run: `longer INPUTS SEED`. The product comes first, the second
+//! program second. It prints the table, and fails on a difference and on a
 //! cell that was met too rarely.
 
+use compare::board::Board;
 use compare::compare::compare;
 use compare::second::rules::Rules;
 use compare::second::Second;
@@ -25,8 +27,7 @@ fn main() -> ExitCode {
     };
     let rules = Rules::base();
     let second = Second { rules };
-    // The product's receiver takes the first place.
-    match compare(&second, &second, &rules, inputs, seed) {
+    match compare(&Board, &second, &rules, inputs, seed) {
         Err(difference) => {
             println!("{difference}");
             ExitCode::FAILURE

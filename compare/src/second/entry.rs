@@ -153,9 +153,14 @@ pub fn entry_at(rules: &Rules, layout: &Layout, bytes: &[u8]) -> Entry {
         },
         _ => snapshot_says(rules, kind, price, size),
     };
+    let is_level = matches!(says, Says::Level { .. } | Says::LevelWithoutPrice { .. });
     Entry {
         kind,
-        shown: shown_count(layout, bytes, 0),
+        shown: if is_level {
+            shown_count(layout, bytes, 0)
+        } else {
+            0
+        },
         says,
     }
 }

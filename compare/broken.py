@@ -1,0 +1,92 @@
+"""Broken builds of the product, each compared with the second program.
+
+Each edit of crates/NAME/must-fail is applied to a copy of the sources. The
+kit's own test program, which compiles without a proof, makes the archive.
+A line for each edit says on which call the comparison differed first.
+
+    python3 compare/broken.py [NAME/EDIT...]
+"""
+
+import platform
+import re
+import shutil
+import subprocess
+import sys
+import tempfile
+from pathlib import Path
+
+TOP = Path(__file__).resolve().parent.parent
+KIT = Path(shutil.which("rt")).resolve().parent.parent
+TOOLS = KIT / "on" / platform.machine()
+RUN = ["200000", "20170401"]
+
+
+def crates():
+    """board, and what it uses."""
+    lines = (TOP / "crates.txt").read_text().splitlines()
+    uses = dict(line.split(":") for line in lines if ":" in line)
+    return uses["board"].split() + ["board"]
+
+
+def edited(folder, edit):
+    """Replaces each old text of an edit, which is there once, by its new one."""
+    path, old = None, None
+    for line in edit.read_text().splitlines():
+        word, _, rest = line.partition(": ")
+        if word == "file":
+            path = folder / rest
+        elif word == "old":
+            old = rest
+        elif word.rstrip(":") == "new":
+            text = path.read_text()
+            if text.count(old) != 1:
+                sys.exit(f"{edit}: its old text is in {path.name} {text.count(old)} times")
+            path.write_text(text.replace(old, rest))
+
+
+def archive(scratch, sources):
+    """The archive of these sources, unproved."""
+    words = [TOOLS / "bin/rattle-cases", "--toolchain", TOOLS / "toolchain"]
+    words += ["--staticlib", scratch / "libboard.a", sources / "board/src/lib.rt", "--crate-name", "board"]
+    words += ["--lib", f"std={KIT}/libs/std/src/lib.rt"]
+    for name in crates()[:-1]:
+        words += ["--lib", f"{name}={sources}/{name}/src/lib.rt"]
+    subprocess.run(words, check=True)
+
+
+def rustc(*words):
+    """Runs the Rust compiler as cargo does for a release."""
+    flags = ["--edition", "2021", "-O", "-C", "overflow-checks=on"]
+    subprocess.run(["rustc", *flags, *words], check=True, cwd=TOP / "compare")
+
+
+def first_difference(scratch):
+    """The call of the first difference between archive and second program."""
+    words = ["--extern", f"compare={scratch}/libcompare.rlib", "-o", scratch / "longer"]
+    rustc("src/bin/longer.rs", *words, "-C", f"link-arg={scratch}/libboard.a")
+    ran = subprocess.run([scratch / "longer", *RUN], capture_output=True, text=True)
+    told = re.search(r"^difference at input (\d+) .*?^call: +(.*?)$", ran.stdout, re.M | re.S)
+    if told:
+        return f"{re.split(r' on Tracker| Cursor', told[2])[0]} (input {told[1]})"
+    return "no difference" if ran.returncode == 0 else f"ended with {ran.returncode}"
+
+
+def main(wanted):
+    with tempfile.TemporaryDirectory() as folder:
+        scratch = Path(folder)
+        rustc("src/lib.rs", "--crate-type", "rlib", "--crate-name", "compare", "-o", scratch / "libcompare.rlib")
+        edits = [edit for name in crates() for edit in sorted((TOP / "crates" / name / "must-fail").glob("*.edit"))]
+        for edit in [None] + edits:
+            label = f"{edit.parent.parent.name}/{edit.stem}" if edit else "as it is"
+            if edit and wanted and label not in wanted:
+                continue
+            sources = scratch / "crates"
+            shutil.rmtree(sources, ignore_errors=True)
+            shutil.copytree(TOP / "crates", sources)
+            if edit:
+                edited(sources / edit.parent.parent.name, edit)
+            archive(scratch, sources)
+            print(f"{label}: {first_difference(scratch)}", flush=True)
+
+
+main(sys.argv[1:])

@@ -1,0 +1,24 @@
+//! Links the product's archive: `libboard.a` of the folder that `BOARD`
+//! names, or of `../target/staticlib`.
+
+use std::path::{Path, PathBuf};
+use std::process::exit;
+
+fn main() {
+    let folder = match std::env::var_os("BOARD") {
+        Some(folder) => PathBuf::from(folder),
+        None => Path::new(env!("CARGO_MANIFEST_DIR")).join("../target/staticlib"),
+    };
+    let archive = folder.join("libboard.a");
+    println!("cargo:rerun-if-env-changed=BOARD");
+    println!("cargo:rerun-if-changed={}", archive.display());
+    if !archive.is_file() {
+        eprintln!(
+            "{} is missing: run `rt staticlib board` at the top of the repository, or name the archive's folder in BOARD",
+            archive.display()
+        );
+        exit(1);
+    }
+    println!("cargo:rustc-link-search=native={}", folder.display());
+    println!("cargo:rustc-link-lib=static=board");
+}
