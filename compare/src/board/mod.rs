@@ -153,7 +153,8 @@ fn entry(told: &header::Entry, priced: PriceAnswer, price: i64) -> Option<Entry>
     };
     let has_level = matches!(told.says, SAYS_LEVEL | SAYS_LEVEL_WITHOUT_PRICE);
     let has_size = has_level || matches!(told.says, SAYS_SIZE | SAYS_PRICE_AND_SIZE);
-    let unsaid = (!has_level && (level, order_count) != (0, 0)) || (!has_size && size != 0);
+    let unsaid =
+        (!has_level && (level, order_count, told.shown) != (0, 0, 0)) || (!has_size && size != 0);
     (fits && !unsaid).then_some(Entry {
         kind: told.characters.to_be_bytes(),
         shown: told.shown,
@@ -355,5 +356,69 @@ impl Receiver for Board {
             rules: Rules::base(),
         }
         .request(tracker, channel, output)
+    }
+}
+
+#[cfg(test)]
+mod tests {
+    use super::*;
+
+    const PRICE: header::Entry = header::Entry {
+        says: SAYS_PRICE,
+        characters: 0x3220,
+        level: 0,
+        size: 0,
+        order_count: 0,
+        shown: 0,
+    };
+
+    #[test]
+    fn an_entry_goes_with_its_price() {
+        let entry = Entry {
+            kind: *b"2 ",
+            shown: 0,
+            says: Says::Price { price: 5 },
+        };
+        let told = found(0, &PRICE, PriceAnswer::Price, 5);
+        assert_eq!(told, Found::Found(entry));
+        let stray = Found::Refused(STRAY);
+        assert_eq!(found(0, &PRICE, PriceAnswer::NoPrice, 5), stray);
+        let size = header::Entry {
+            says: SAYS_SIZE,
+            ..PRICE
+        };
+        assert_eq!(found(0, &size, PriceAnswer::Price, 5), stray);
+    }
+
+    #[test]
+    fn a_number_that_is_not_said_is_stray() {
+        let strays = [
+            header::Entry { says: 0, ..PRICE },
+            header::Entry { says: 8, ..PRICE },
+            header::Entry { level: 1, ..PRICE },
+            header::Entry { size: 1, ..PRICE },
+            header::Entry {
+                order_count: 1,
+                ..PRICE
+            },
+            header::Entry { shown: 1, ..PRICE },
+        ];
+        for stray in strays {
+            let told = found(0, &stray, PriceAnswer::Price, 5);
+            assert_eq!(told, Found::Refused(STRAY), "{stray:?}");
+        }
+    }
+
+    #[test]
+    fn a_number_beside_a_refusal_is_stray() {
+        let none = header::Entry::default();
+        let answer = PriceAnswer::Refused(4);
+        assert_eq!(found(4, &none, answer, 0), Found::Refused(4));
+        assert_eq!(found(4, &PRICE, answer, 0), Found::Refused(STRAY));
+        assert_eq!(found(NO_SUCH_ENTRY, &none, answer, 0), Found::NoSuchEntry);
+        assert_eq!(
+            found(NO_SUCH_ENTRY, &PRICE, answer, 0),
+            Found::Refused(STRAY)
+        );
     }
 }

@@ -5,6 +5,7 @@ use super::second;
 use compare::board::Board;
 use compare::compare::compare;
 use compare::inputs::Inputs;
+use std::io::Write;
 
 const INPUTS: u64 = 1_000_000;
 const SEED: u64 = 20_170_401;
@@ -17,7 +18,11 @@ fn product_and_second_program_agree() {
         Ok(table) => table,
         Err(difference) => panic!("{difference}"),
     };
-    println!("{table}");
+    // Not by `println`, of which a passing test shows nothing.
+    let told = format!("\n{INPUTS} inputs of seed {SEED}\n\n{table}");
+    std::io::stdout()
+        .write_all(told.as_bytes())
+        .expect("an output");
     assert_eq!(table.faults(LEAST), Vec::<String>::new());
 }
 

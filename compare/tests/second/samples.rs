@@ -1,7 +1,10 @@
-//! The samples: each capture's listing and decoded text.
+//! The samples: each capture's listing and decoded text, by the second
+//! program and by the product.
 
 use super::second;
 use super::text::{listing, showing};
+use compare::board::Board;
+use compare::receiver::Receiver;
 use std::fs;
 use std::path::{Path, PathBuf};
 
@@ -30,14 +33,36 @@ fn same_text(path: &Path, told: &str, expected: &str) {
     assert_eq!(told.len(), expected.len(), "length of {}", path.display());
 }
 
+/// The second program and the product.
+fn both() -> [Box<dyn Receiver>; 2] {
+    [Box::new(second()), Box::new(Board)]
+}
+
+/// Both receivers list a capture so.
+fn same_listing(path: &Path, expected: &Path) {
+    let bytes = fs::read(path).expect("a capture");
+    let expected = fs::read_to_string(expected).expect("its listing");
+    for receiver in both() {
+        same_text(path, &listing(&*receiver, &bytes), &expected);
+    }
+}
+
+/// Both receivers decode a capture so.
+fn same_showing(path: &Path, expected: &Path) {
+    let bytes = fs::read(path).expect("a capture");
+    let expected = fs::read_to_string(expected).expect("its text");
+    let rules = second().rules;
+    for receiver in both() {
+        same_text(path, &showing(&*receiver, &rules, &bytes), &expected);
+    }
+}
+
 #[test]
 fn listings() {
     let captures = captures("list");
     assert!(captures.len() >= 20);
     for path in captures {
-        let bytes = fs::read(&path).expect("a capture");
-        let expected = fs::read_to_string(path.with_extension("out")).expect("its text");
-        same_text(&path, &listing(&second(), &bytes), &expected);
+        same_listing(&path, &path.with_extension("out"));
     }
 }
 
@@ -46,24 +71,15 @@ fn decoded_texts() {
     let captures = captures("show");
     assert!(captures.len() >= 10);
     for path in captures {
-        let bytes = fs::read(&path).expect("a capture");
-        let expected = fs::read_to_string(path.with_extension("out")).expect("its text");
-        same_text(
-            &path,
-            &showing(&second(), &second().rules, &bytes),
-            &expected,
-        );
+        same_showing(&path, &path.with_extension("out"));
     }
 }
 
 #[test]
 fn opening_auction() {
     let path = folder().join("opening.bin");
-    let bytes = fs::read(&path).expect("a capture");
-    let list = fs::read_to_string(path.with_extension("list")).expect("its listing");
-    let show = fs::read_to_string(path.with_extension("show")).expect("its text");
-    same_text(&path, &listing(&second(), &bytes), &list);
-    same_text(&path, &showing(&second(), &second().rules, &bytes), &show);
+    same_listing(&path, &path.with_extension("list"));
+    same_showing(&path, &path.with_extension("show"));
 }
 
 #[test]
@@ -72,8 +88,8 @@ fn document_01s_listing() {
     bytes.extend(super::hex(
         "0005F3CF 0000000C 07DB 000000000000000A 0000 000000BF",
     ));
-    assert_eq!(
-        listing(&second(), &bytes),
-        "0 3 0\n12 390095 12\n36 end 2\n"
-    );
+    for receiver in both() {
+        let told = listing(&*receiver, &bytes);
+        assert_eq!(told, "0 3 0\n12 390095 12\n36 end 2\n");
+    }
 }
