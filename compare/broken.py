@@ -76,6 +76,7 @@ def main(wanted):
         scratch = Path(folder)
         rustc("src/lib.rs", "--crate-type", "rlib", "--crate-name", "compare", "-o", scratch / "libcompare.rlib")
         edits = [edit for name in crates() for edit in sorted((TOP / "crates" / name / "must-fail").glob("*.edit"))]
+        unedited = None
         for edit in [None] + edits:
             label = f"{edit.parent.parent.name}/{edit.stem}" if edit else "as it is"
             if edit and wanted and label not in wanted:
@@ -86,7 +87,11 @@ def main(wanted):
             if edit:
                 edited(sources / edit.parent.parent.name, edit)
             archive(scratch, sources)
-            print(f"{label}: {first_difference(scratch)}", flush=True)
+            built = (scratch / "libboard.a").read_bytes()
+            unedited = unedited or built
+            same = edit and built == unedited
+            told = "the archive is the same" if same else first_difference(scratch)
+            print(f"{label}: {told}", flush=True)
 
 
 main(sys.argv[1:])

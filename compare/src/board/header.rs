@@ -397,6 +397,7 @@ calls! {
     fn orizhgum_set_up(channels: *const u16, length: usize) -> StartAnswer;
     fn orizhgum_tick(tracker: Tracker, channel: u16, number: i64) -> ArrivalAnswer;
     fn orizhgum_heartbeat(tracker: Tracker, channel: u16, last: i64, end: u8) -> ArrivalAnswer;
+    fn orizhgum_request(tracker: Tracker, channel: u16, out: *mut u8, out_length: usize) -> WriteAnswer;
 }
 
 writers! {
@@ -418,6 +419,7 @@ pub const NO_SUCH_ENTRY: u32 = 101;
 pub const NO_PRICE: u32 = 102;
 pub const LATE: u32 = 103;
 pub const DUPLICATE: u32 = 104;
+pub const NOTHING_MISSING: u32 = 105;
 
 /// What an entry says, by number.
 pub const SAYS_LEVEL: u32 = 1;
@@ -461,6 +463,7 @@ pub fn numbers() -> String {
             NO_PRICE = "NO_PRICE",
             LATE = "LATE",
             DUPLICATE = "DUPLICATE",
+            NOTHING_MISSING = "NOTHING_MISSING",
             SAYS_LEVEL = "SAYS_LEVEL",
             SAYS_LEVEL_WITHOUT_PRICE = "SAYS_LEVEL_WITHOUT_PRICE",
             SAYS_PRICE = "SAYS_PRICE",

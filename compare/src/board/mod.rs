@@ -11,8 +11,6 @@ use crate::receiver::{
     NUMBERS, TEXTS,
 };
 use crate::second::layout::*;
-use crate::second::rules::Rules;
-use crate::second::Second;
 use header::*;
 use numbers::Numbers;
 use std::ptr;
@@ -351,11 +349,15 @@ impl Receiver for Board {
     }
 
     fn request(&self, tracker: &Tracker, channel: u16, output: &mut [u8]) -> RequestAnswer {
-        // NOT COMPARED YET: the header has no call for the request, so the second program answers.
-        Second {
-            rules: Rules::base(),
+        let (out, length) = (lent_out(output), output.len());
+        let told = unsafe { orizhgum_request(*tracker, channel, out, length) };
+        match told.answer {
+            NOTHING_MISSING if told.written == 0 => RequestAnswer::NothingMissing,
+            _ => match written(told) {
+                WriteAnswer::Written(size) => RequestAnswer::Written(size),
+                WriteAnswer::Refused(number) => RequestAnswer::Refused(number),
+            },
         }
-        .request(tracker, channel, output)
     }
 }
 

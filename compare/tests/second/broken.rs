@@ -102,9 +102,11 @@ enum How {
     PriceWhereThereIsNone,
     NumberChangedOnNoPrice,
     EndsOnOneOnly,
+    EightBeforeSeven,
+    EightBeforeTen,
 }
 
-const ALL: [How; 17] = [
+const ALL: [How; 19] = [
     How::RefusesEveryFrame,
     How::AnswersHeartbeatAlways,
     How::MadeUpFrameLength,
@@ -122,6 +124,8 @@ const ALL: [How; 17] = [
     How::PriceWhereThereIsNone,
     How::NumberChangedOnNoPrice,
     How::EndsOnOneOnly,
+    How::EightBeforeSeven,
+    How::EightBeforeTen,
 ];
 
 /// The second program, broken in one way.
@@ -239,6 +243,12 @@ impl Receiver for Broken {
         let refused = matches!(answer.verdict, Verdict::Refused(_));
         match self.how {
             How::KeepsItsState => answer.next = *tracker,
+            How::EightBeforeSeven if answer.verdict == Verdict::Refused(7) && number < 1 => {
+                answer.verdict = Verdict::Refused(8)
+            }
+            How::EightBeforeTen if answer.verdict == Verdict::Refused(10) && number < 1 => {
+                answer.verdict = Verdict::Refused(8)
+            }
             How::NewEverAfter if !refused && tracker.highest != [0; 8] => {
                 answer = ArrivalAnswer {
                     verdict: Verdict::New,
