@@ -1,5 +1,6 @@
 //! The second program: document 01 in plain Rust. It was written from
-//! document 01 alone, without sight of the product's sources.
+//! document 01 alone, without sight of the product's sources. Where document
+//! 01 is silent it does as docs/DECISIONS.md and the C header say.
 
 #![forbid(unsafe_code)]
 
