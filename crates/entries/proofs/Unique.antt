@@ -2,14 +2,9 @@
 -- Assumes nothing.
 use Prim.Native.Nat.{ℕ}
 use mathlib.Core.Path.{_≡_, refl, ap, sym, _∙_}
-use mathlib.Core.Bool.{cond}
-use lib.Dec.{eqb}
 use lib.IntN.{ℤ, pos, negsuc}
 use Rattle.wire.specs.Answer.{Answer, accepted, refused}
-use Rattle.wire.specs.Refusal.{notItsLayout}
-use Rattle.layout.specs.declared.group.Refusal.{Refusal}
-use Rattle.layout.specs.declared.group.Refusal.the-variants.{NotItsLayout, OutOfRange}
-use Rattle.layout.specs.Paper.{refusal}
+use Rattle.layout.proofs.Unique.{code-refusal, back-refusal}
 use Rattle.record.specs.Asked.{Asked, found, noSuchEntry}
 use Rattle.entries.specs.Entry.{Says, level, levelWithoutPrice, price, size, both, noLimit, unknown, Entry, At, Stepped}
 use Rattle.entries.specs.Paper.{paperSays, paperEntry, paperAskedEntry, paperQuantity, paperCursor, paperStep}
@@ -21,9 +16,6 @@ use Rattle.entries.specs.declared.cursor.Cursor as code-cursor
 use Rattle.entries.specs.declared.cursor.Step as code-step
 
 -- ---- the ways back
-
-abbrev codeRefusal : ℕ → Refusal
-codeRefusal n = cond (eqb n notItsLayout) NotItsLayout OutOfRange
 
 abbrev natural : ℤ → ℕ
 natural (pos n) = n
@@ -47,23 +39,19 @@ codeCursor c = record { place = c .place; left = c .left }
 abbrev codeAskedEntry : Answer (Asked Entry) → asked-entry.AskedEntry
 codeAskedEntry (accepted (found e)) = asked-entry.the-variants.Found (codeEntry e)
 codeAskedEntry (accepted noSuchEntry) = asked-entry.the-variants.NoSuchEntry
-codeAskedEntry (refused n vs) = asked-entry.the-variants.Refused (codeRefusal n)
+codeAskedEntry (refused n vs) = asked-entry.the-variants.Refused (code-refusal n)
 
 abbrev codeQuantity : Answer (Asked ℤ) → asked-quantity.AskedQuantity
 codeQuantity (accepted (found z)) = asked-quantity.the-variants.Found z
 codeQuantity (accepted noSuchEntry) = asked-quantity.the-variants.NoSuchEntry
-codeQuantity (refused n vs) = asked-quantity.the-variants.Refused (codeRefusal n)
+codeQuantity (refused n vs) = asked-quantity.the-variants.Refused (code-refusal n)
 
 abbrev codeStep : Answer (Asked Stepped) → code-step.Step
 codeStep (accepted (found x)) = code-step.the-variants.Found (codeEntry (x .entry)) (codeCursor (x .onward))
 codeStep (accepted noSuchEntry) = code-step.the-variants.NoSuchEntry
-codeStep (refused n vs) = code-step.the-variants.Refused (codeRefusal n)
+codeStep (refused n vs) = code-step.the-variants.Refused (code-refusal n)
 
 -- ---- there and back
-
-refusal-back : (x : Refusal) → codeRefusal (refusal x) ≡ x
-refusal-back NotItsLayout = refl
-refusal-back OutOfRange = refl
 
 says-back : (x : code-says.Says) → codeSays (paperSays x) ≡ x
 says-back (code-says.the-variants.Level p z l o n) = refl
@@ -80,12 +68,12 @@ entry-back e = λ i. record { characters = e .characters; says = says-back (e .s
 asked-entry-back : (r : asked-entry.AskedEntry) → codeAskedEntry (paperAskedEntry r) ≡ r
 asked-entry-back (asked-entry.the-variants.Found e) = ap asked-entry.the-variants.Found (entry-back e)
 asked-entry-back asked-entry.the-variants.NoSuchEntry = refl
-asked-entry-back (asked-entry.the-variants.Refused x) = ap asked-entry.the-variants.Refused (refusal-back x)
+asked-entry-back (asked-entry.the-variants.Refused x) = ap asked-entry.the-variants.Refused (back-refusal x)
 
 quantity-back : (r : asked-quantity.AskedQuantity) → codeQuantity (paperQuantity r) ≡ r
 quantity-back (asked-quantity.the-variants.Found z) = refl
 quantity-back asked-quantity.the-variants.NoSuchEntry = refl
-quantity-back (asked-quantity.the-variants.Refused x) = ap asked-quantity.the-variants.Refused (refusal-back x)
+quantity-back (asked-quantity.the-variants.Refused x) = ap asked-quantity.the-variants.Refused (back-refusal x)
 
 cursor-back : (c : code-cursor.Cursor) → codeCursor (paperCursor c) ≡ c
 cursor-back c = refl
@@ -93,7 +81,7 @@ cursor-back c = refl
 step-back : (r : code-step.Step) → codeStep (paperStep r) ≡ r
 step-back (code-step.the-variants.Found e c) = λ i. code-step.the-variants.Found (entry-back e i) (cursor-back c i)
 step-back code-step.the-variants.NoSuchEntry = refl
-step-back (code-step.the-variants.Refused x) = ap code-step.the-variants.Refused (refusal-back x)
+step-back (code-step.the-variants.Refused x) = ap code-step.the-variants.Refused (back-refusal x)
 
 -- ---- one answer
 

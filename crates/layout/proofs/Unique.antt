@@ -1,4 +1,4 @@
--- Two verdicts that meet a promise are equal.
+-- Two verdicts that meet a promise are equal: a refusal is known by its number.
 -- Assumes nothing.
 use Prim.Native.Nat.{ℕ}
 use mathlib.Core.Path.{_≡_, refl, ap, sym, _∙_}
@@ -6,20 +6,28 @@ use mathlib.Core.Bool.{cond}
 use lib.Dec.{eqb}
 use Rattle.wire.specs.Answer.{Answer, accepted, refused}
 use Rattle.wire.specs.Refusal.{notItsLayout}
-use Rattle.layout.specs.Paper.{paper}
+use Rattle.layout.specs.Paper.{refusal, paper}
+use Rattle.layout.specs.declared.group.Refusal.{Refusal}
 use Rattle.layout.specs.declared.group.Refusal.the-variants.{NotItsLayout, OutOfRange}
 use Rattle.layout.specs.declared.group.Verdict.{Verdict}
 use Rattle.layout.specs.declared.group.Verdict.the-variants.{Accepted, Refused}
 
+-- the refusal of a number
+abbrev pub code-refusal : ℕ → Refusal
+code-refusal n = cond (eqb n notItsLayout) NotItsLayout OutOfRange
+
+pub back-refusal : (x : Refusal) → code-refusal (refusal x) ≡ x
+back-refusal NotItsLayout = refl
+back-refusal OutOfRange = refl
+
 code : Answer Unit → Verdict
 code (accepted u) = Accepted
-code (refused n vs) = Refused (cond (eqb n notItsLayout) NotItsLayout OutOfRange)
+code (refused n vs) = Refused (code-refusal n)
 
 back : (v : Verdict) → code (paper v) ≡ v
 unfolding code
 back Accepted = refl
-back (Refused NotItsLayout) = refl
-back (Refused OutOfRange) = refl
+back (Refused x) = ap Refused (back-refusal x)
 
 pub one-verdict : (a b : Verdict) → paper a ≡ paper b → a ≡ b
 one-verdict a b e = sym (back a) ∙ ap code e ∙ back b

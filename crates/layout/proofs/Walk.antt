@@ -6,7 +6,7 @@ use mathlib.Core.Bool.{Bool, true, false, not, _&&_}
 use mathlib.Core.List.{List, [], _∷_}
 use native.Mathlib.Nat.{mul-suc}
 use native.Mathlib.Omega.{arith}
-use borrow.Author.Tests.{le-leb, lt-leb, leb-true}
+use borrow.Author.Tests.{le-leb, lt-leb, leb-true, leb-false}
 use lib.Dec.{leb}
 use lib.ListN.{length, take, drop}
 use Rattle.wire.specs.Answer.{Answer, accepted, refused, guard}
@@ -15,7 +15,7 @@ use Rattle.wire.specs.Refusal.{notItsLayout}
 use Rattle.wire.proofs.Be.{beAt-part, beAt-here}
 use Rattle.layout.specs.Kind.{Kind, quantity, width, ranged}
 use Rattle.layout.specs.Layout.{Message, fields, Group, size, ranges}
-use Rattle.layout.specs.Group.{shown, shownPlace, next, place, fit, quantities, groupRanges, verdict, judgedFrom, placeFrom, also, noGroup, group, start, count, judged}
+use Rattle.layout.specs.Group.{shown, shownPlace, next, place, fit, quantities, groupRanges, verdict, judgedFrom, placeFrom, also, noGroup, group, start, count, needs, whole, judged}
 
 -- ---- truth values
 
@@ -122,6 +122,15 @@ module _ (g : Group) (s : List ℕ) where
   place-behind at zero = omega arith
   place-behind at (suc i) = omega (arith, place-behind (next g s at) i)
 
+  -- groups that the bytes lack end behind the bytes
+  pub place-beyond : (at k : ℕ) → fit g s at k ≡ false → length s < place g s at k
+  place-beyond at zero e = let z : _≡_ {A = ℕ} 0 1 = cc (fit-none at 0 zero-le) in absurd (omega arith)
+  place-beyond at (suc k) e = rw (place-step at (suc k) (omega arith), pred-is k) (go (leb (next g s at) (length s)) refl (λ f. place-beyond (next g s at) k f))
+    where
+      go : (b : Bool) → leb (next g s at) (length s) ≡ b → (fit g s (next g s at) k ≡ false → length s < place g s (next g s at) k) → length s < place g s (next g s at) k
+      go true h on = on (sym (fit-on at (suc k) (omega arith) (leb-true (next g s at) (length s) h) ∙ rw (pred-is k)) ∙ e)
+      go false h on = omega (arith, leb-false (next g s at) (length s) h, place-behind (next g s at) k)
+
   pub fit-there : (at i k : ℕ) → i < k → fit g s at k ≡ true → fit g s (place g s at i) (k - i) ≡ true
   unfolding place
   fit-there at zero k h e = let m : k - 0 ≡ k = omega arith in rw m e
@@ -207,6 +216,20 @@ module _ (m : Message) (s : List ℕ) where
   judged-long h =
       rw (le-leb (start m) (length s) h)
       (also-by (fit (group m) s (start m) (count m s)) (ranges (fields m) s 0) (groupRanges (group m) s (start m) (count m s)))
+
+  -- a layout needs the bytes up to where its groups end, and no more
+  needs-by : (b : Bool) → leb (start m) (length s) ≡ b → whole m s ≡ false → length s < needs m s
+  needs-by true h e =
+      place-beyond (group m) s (start m) (count m s) (rw h at e)
+  needs-by false h e = omega (arith, leb-false (start m) (length s) h, place-behind (group m) s (start m) (count m s))
+
+  pub needs-more : whole m s ≡ false → length s < needs m s
+  needs-more e = needs-by (leb (start m) (length s)) refl e
+
+  pub needs-no-more : whole m s ≡ true → needs m s ≤ length s
+  needs-no-more e =
+      let a = and-both (leb (start m) (length s)) (fit (group m) s (start m) (count m s)) e in
+      place-within (group m) s (start m) (count m s) (leb-true _ _ (a .0)) (a .1)
 
 -- nothing behind the fields is always there and in range
 pub judged-nothing : (s : List ℕ) (at : ℕ) → judgedFrom noGroup s at 0 ≡ accepted tt

@@ -92,6 +92,10 @@ start m = size (fields m)
 abbrev pub count : Message → List ℕ → ℕ
 count m s = counted (behind m) (start m) s
 
+-- how many bytes a type's layout needs of a body: up to where its groups and their shown quantities end
+abbrev pub needs : Message → List ℕ → ℕ
+needs m s = place (group m) s (start m) (count m s)
+
 -- "a listed layout needs more bytes than the body has", groups and shown quantities included
 abbrev pub whole : Message → List ℕ → Bool
 whole m s = leb (start m) (length s) && fit (group m) s (start m) (count m s)

@@ -8,18 +8,26 @@ use lib.Dec.{eqb}
 use lib.IntN.{ℤ, pos, natAbs}
 use lib.ListN.{getD}
 use Rattle.wire.specs.Answer.{Answer, accepted, refused}
-use Rattle.wire.specs.Refusal.{tooShort, tooLong, wrongSum, notItsLayout}
+use Rattle.wire.specs.Refusal.{tooShort, tooLong, wrongSum}
 use Rattle.frame.specs.declared.Refusal as frame-refusal
 use Rattle.layout.specs.Layout.{heartbeat, channelHeartbeat, resend, statistics, securityStatus, snapshot, index, volumeIndex, order, trade}
-use Rattle.layout.specs.Paper.{refusal}
-use Rattle.layout.specs.declared.group.Refusal.{Refusal}
 use Rattle.layout.specs.declared.group.Refusal.the-variants.{NotItsLayout, OutOfRange}
+use Rattle.layout.proofs.Unique.{code-refusal, back-refusal}
 use Rattle.record.specs.Asked.{Told, Asked, found, noSuchEntry}
 use Rattle.record.specs.Record as record-of
 use Rattle.record.specs.Paper.{paperRecord, paperAnswer, paper, frameAnswer, paperFrame, groupAnswer, paperGroup}
 use Rattle.record.specs.declared.Record.{Record}
 use Rattle.record.specs.declared.Record.the-variants.{Heartbeat, ChannelHeartbeat, Resend, Statistics, SecurityStatus, Snapshot, Index, VolumeIndex, Order, Trade, Unknown}
 use Rattle.record.specs.declared.common.Common.{Common}
+use Rattle.record.specs.declared.order.Order as code-order
+use Rattle.record.specs.declared.trade.Trade as code-trade
+use Rattle.record.specs.declared.channel_heartbeat.ChannelHeartbeat as code-channel-heartbeat
+use Rattle.record.specs.declared.resend.Resend as code-resend
+use Rattle.record.specs.declared.snapshot.Snapshot as code-snapshot
+use Rattle.record.specs.declared.index.Index as code-index
+use Rattle.record.specs.declared.volume_index.VolumeIndex as code-volume-index
+use Rattle.record.specs.declared.statistics.Statistics as code-statistics
+use Rattle.record.specs.declared.security_status.SecurityStatus as code-security-status
 use Rattle.record.specs.declared.Answer as code-answer
 use Rattle.record.specs.declared.Reading as code-reading
 use Rattle.record.specs.declared.framed.FrameAnswer as frame-answer
@@ -103,13 +111,37 @@ back-record (Order r) = refl
 back-record (Trade r) = refl
 back-record (Unknown t) = refl
 
-code-refusal : ℕ → Refusal
-code-refusal x = cond (eqb x notItsLayout) NotItsLayout OutOfRange
+pub one-record : (x y : Record) → paperRecord x ≡ paperRecord y → x ≡ y
+one-record x y e = sym (back-record x) ∙ ap code-record e ∙ back-record y
 
-back-refusal : (x : Refusal) → code-refusal (refusal x) ≡ x
-unfolding code-refusal
-back-refusal NotItsLayout = refl
-back-refusal OutOfRange = refl
+-- ---- the numbers of one type's bytes
+
+pub one-order : (a b : code-order.Order) → paperRecord (Order a) ≡ paperRecord (Order b) → a ≡ b
+one-order a b e = cc (one-record (Order a) (Order b) e)
+
+pub one-trade : (a b : code-trade.Trade) → paperRecord (Trade a) ≡ paperRecord (Trade b) → a ≡ b
+one-trade a b e = cc (one-record (Trade a) (Trade b) e)
+
+pub one-channel-heartbeat : (a b : code-channel-heartbeat.ChannelHeartbeat) → paperRecord (ChannelHeartbeat a) ≡ paperRecord (ChannelHeartbeat b) → a ≡ b
+one-channel-heartbeat a b e = cc (one-record (ChannelHeartbeat a) (ChannelHeartbeat b) e)
+
+pub one-resend : (a b : code-resend.Resend) → paperRecord (Resend a) ≡ paperRecord (Resend b) → a ≡ b
+one-resend a b e = cc (one-record (Resend a) (Resend b) e)
+
+pub one-snapshot : (a b : code-snapshot.Snapshot) → paperRecord (Snapshot a) ≡ paperRecord (Snapshot b) → a ≡ b
+one-snapshot a b e = cc (one-record (Snapshot a) (Snapshot b) e)
+
+pub one-index : (a b : code-index.Index) → paperRecord (Index a) ≡ paperRecord (Index b) → a ≡ b
+one-index a b e = cc (one-record (Index a) (Index b) e)
+
+pub one-volume-index : (a b : code-volume-index.VolumeIndex) → paperRecord (VolumeIndex a) ≡ paperRecord (VolumeIndex b) → a ≡ b
+one-volume-index a b e = cc (one-record (VolumeIndex a) (VolumeIndex b) e)
+
+pub one-statistics : (a b : code-statistics.Statistics) → paperRecord (Statistics a) ≡ paperRecord (Statistics b) → a ≡ b
+one-statistics a b e = cc (one-record (Statistics a) (Statistics b) e)
+
+pub one-security-status : (a b : code-security-status.SecurityStatus) → paperRecord (SecurityStatus a) ≡ paperRecord (SecurityStatus b) → a ≡ b
+one-security-status a b e = cc (one-record (SecurityStatus a) (SecurityStatus b) e)
 
 -- ---- a body
 
@@ -141,7 +173,7 @@ code-frame-of (accepted r) = frame-answer.the-variants.Read (code-record r)
 code-frame-of (refused x vs) = code-frame-refusal x
 
 back-frame : (a : frame-answer.FrameAnswer) → code-frame-of (frameAnswer a) ≡ a
-unfolding code-frame-of code-frame-refusal code-refusal
+unfolding code-frame-of code-frame-refusal
 back-frame (frame-answer.the-variants.Read r) = ap frame-answer.the-variants.Read (back-record r)
 back-frame (frame-answer.the-variants.Frame frame-refusal.the-variants.Short) = refl
 back-frame (frame-answer.the-variants.Frame frame-refusal.the-variants.TooLong) = refl
