@@ -1,37 +1,469 @@
--- Demand 1: each call's answer is the refusal of the first rule whose condition holds.
+-- Demand 1: each call's answer is the refusal of the first rule whose condition holds, and leaves things as they stood.
 -- Assumes nothing.
-use Prim.Native.Nat.{ℕ, _+_, _≤_, _<_}
-use mathlib.Core.Path.{_≡_, sym, subst}
-use mathlib.Core.List.{List}
-use native.Mathlib.Nat.{sub-zero}
+use Prim.Native.Nat.{ℕ, zero, suc, _+_, _≤_, _<_, zero-le}
+use mathlib.Core.Path.{_≡_, refl, ap, sym, subst, _∙_}
+use mathlib.Core.Bool.{Bool, true, false, true≢false, not, cond}
+use mathlib.Core.Logic.{_↔_, _⊎_, inl, inr, ⊎-elim}
+use mathlib.Core.List.{List, [], _∷_}
 use native.Mathlib.Omega.{arith}
-use lib.ListN.{length}
-use Rattle.wire.specs.Answer.{Answer}
+use borrow.Author.Tests.{ltb-true, ltb-false, leb-true, leb-false, le-leb, eqb-true, eqb-false, not-true, not-false}
+use lib.Dec.{T, ltb, leb, eqb}
+use lib.IntN.{ℤ}
+use lib.ListN.{length, getD}
+use lib.Signed.{ltZ-yes}
+use Rattle.wire.specs.Answer.{Answer, accepted, refused, guard, andThen}
+use Rattle.wire.specs.Bytes.{beAt, part}
+use Rattle.wire.specs.Refusal.{notItsLayout, outOfRange, outputShort, noSuchChannel, malformed}
 use Rattle.frame.specs.Framing.{framing, headerWidth, bodyLimit}
 use Rattle.frame.specs.declared.Frame.{Frame}
-use Rattle.frame.proofs.Framing.{Reading, no-header, too-long, cut, wrong-sum, whole, reading}
-use Rattle.demands.specs.Demand1.{Judged, success, here, later, L, frameRules, FrameReader}
+use Rattle.frame.proofs.Framing as frame-laws
+use Rattle.layout.specs.Layout.{Listed, listed, unlisted, named, Behind, nothing, groups, entries, Entries, entryGroup, behind}
+use Rattle.layout.specs.Group.{start, counted, shown, place, next, fit, groupRanges, judgedFrom}
+use Rattle.layout.proofs.Walk.{and-both, ahead, place-beyond}
+use Rattle.record.specs.Asked.{Told, onceAccepted, Asked, found, noSuchEntry, below, judgedAs, judging}
+use Rattle.record.specs.Record as record-of
+use Rattle.record.specs.Record.{readListed, reading, frameReading, groupIn, groupAs, groupListed, groupAsked}
+use Rattle.entries.specs.Entry.{entryIn, entryOf, entryAsked, quantityIn, quantityOf, quantityAsked, quantityAt, ofFound, At, Stepped, stepIn, stepOf}
+use Rattle.record.specs.Paper.{paperRecord}
+use Rattle.entries.specs.Paper.{paperCursor}
+use Rattle.writer.specs.Write.{judging as writes, outputOf, answering, leaving}
+use Rattle.gaps.specs.Limits.{runLimit}
+use Rattle.gaps.specs.Channel as channel-of
+use Rattle.gaps.specs.Channel.{Event, tick, heartbeat, taken, tooLow}
+use Rattle.tracker.specs.declared.Tracker.{Tracker}
+use Rattle.tracker.specs.Places.{channelLimit}
+use Rattle.tracker.specs.Rules.{sound, wellFormed}
+use Rattle.tracker.specs.SetUp.{ascends, blankOf, Ready, given, setUp}
+use Rattle.tracker.specs.Arrived.{on, place as place-of, Outcome, settled, arrived}
+use Rattle.gaps.specs.declared.Run.{Run}
+use Rattle.tracker.specs.FirstRun.{Lost, lost, nothingMissing, foremost, firstRun}
+use Rattle.tracker.specs.Request as request
+use Rattle.tracker.specs.Request.{requestLength, fitting, answerOf}
+use Rattle.tracker.proofs.Fitting.{request-length}
+use Rattle.demands.specs.Play.{recordOf}
+use Rattle.demands.specs.Rules.{_if_, Judged, success, later, L, bodyRules, behindOf, fieldsEnd, groupsIn, entriesIn, shownIn, leftIn, EntryLacks, EntryStrays, Falls, setUpRules, NotIn, Low, arrivalRules, requestRules}
+use Rattle.demands.specs.Demand1.{FrameReader, FrameRecordReader, RecordReader, Judge, GroupReader, EntryReader, QuantityReader, Stepper, Writer, SetUp, ZeroBreaks, Arrival, Request}
+use Rattle.demands.proofs.Rules.{above, answered, tested, unless, Alike, both-accepted, both-refused, alike, in-turn, by-reading, by-body, by-judging}
+use Rattle.demands.proofs.Out.{only-out, only-in}
+use Rattle.demands.proofs.Played.{place-number, place-found}
 
-above : {a b : ℕ} → b ≤ a → a < b → ⊥
-above h k = omega arith
-
-holds : {C : Type 0} → C → (C → ⊥) → ⊥
-holds c x = x c
-
-pub by-reading : (s : List ℕ) (a : Answer Frame) → Reading headerWidth bodyLimit s a → Judged (frameRules s) a
-by-reading s a (no-header i) = here i
-by-reading s a (too-long i e j) = later (above i) (here (rw e at j))
-by-reading s a (cut i e j k) =
-    let c : length s < 12 + L s = omega arith in
-    later (above i) (later (above (rw e at j)) (here c))
-by-reading s a (wrong-sum i e j k w) =
-    let c : 12 + L s ≤ length s = omega arith in
-    later (above i) (later (above (rw e at j)) (later (above c) (here (rw (e, sub-zero) at w))))
-by-reading s a (whole i) =
-    let c : 12 + L s ≤ length s = omega arith in
-    later (above (i .header))
-    (later (above (rw (i .len) at (i .within)))
-    (later (above c) (later (holds (rw (i .len, sub-zero) at (i .sum))) success)))
+-- ---- the reader
 
 pub frame-reader : FrameReader
-frame-reader s r e = by-reading s _ (reading (sym e))
+frame-reader s r e = by-reading s _ (frame-laws.reading (sym e))
+
+-- what follows a body that was judged
+once-alike : {A : Type 0} (v : Answer Unit) (a : A) (t : List ℕ) → Alike v (onceAccepted v a t .answer)
+once-alike (accepted u) a t = both-accepted
+once-alike (refused n vs) a t = both-refused
+
+then-alike : {A : Type 0} (v : Answer Unit) (a : A) → Alike v (andThen v (λ (u : Unit). accepted a))
+unfolding andThen
+then-alike (accepted u) a = both-accepted
+then-alike (refused n vs) a = both-refused
+
+read-alike : (l : Listed) (type : ℕ) (b : List ℕ) → Alike (judgedAs l b) (readListed l type b .answer)
+unfolding record-of.readAs
+read-alike (listed m) type b = once-alike (judgedAs (listed m) b) _ _
+read-alike unlisted type b = both-accepted
+
+pub by-type : (type : ℕ) (b : List ℕ) → Judged (bodyRules type b) (reading type b .answer)
+unfolding reading
+by-type type b = alike (read-alike (named type) type b) (by-body (named type) b)
+
+pub record-reader : RecordReader
+record-reader type b r e = answered (ap (λ (t : Told record-of.Reading). t .answer) e) (by-type type b)
+
+pub judge : Judge
+judge type b r e = answered e (by-body (named type) b)
+
+refused-on : (s : List ℕ) (n : ℕ) (vs : List ℕ) → framing headerWidth bodyLimit s ≡ refused n vs → frameReading s .answer ≡ refused n vs
+unfolding frameReading
+refused-on s n vs e = rw e
+
+accepted-on :
+    (s : List ℕ) (f : Frame) → framing headerWidth bodyLimit s ≡ accepted f →
+    Judged (bodyRules (beAt s 0 4) (part 8 (8 + L s) s)) (frameReading s .answer)
+unfolding frameReading
+accepted-on s f e =
+    let a = frame-laws.known-of headerWidth bodyLimit s f e in
+    rw (e, a .kind, a .len) (by-type (beAt s 0 4) (part 8 (8 + L s) s))
+
+pub frame-record-reader : FrameRecordReader
+frame-record-reader s r e =
+    answered (ap (λ (t : Told record-of.Reading). t .answer) e)
+    (in-turn (frameReading s .answer) (by-reading s _ (frame-laws.view headerWidth bodyLimit s)) (refused-on s) (accepted-on s))
+
+-- ---- by position
+
+-- "one not below the count"
+below-by : {A : Type 0} (i n : ℕ) (a : A) (b : Bool) → ltb i n ≡ b → (cond b (found a) noSuchEntry ≡ noSuchEntry) ↔ (n ≤ i)
+below-by i n a true e = (λ q. let z : _≡_ {A = ℕ} 0 1 = cc in absurd (omega arith), λ h. absurd (above h (ltb-true i n e)))
+below-by i n a false e = (λ q. ltb-false i n e, λ h. refl)
+
+below-none : {A : Type 0} (i n : ℕ) (a : A) → (below i n a ≡ noSuchEntry) ↔ (n ≤ i)
+below-none i n a = below-by i n a (ltb i n) refl
+
+none-there : {A : Type 0} (i : ℕ) → (_≡_ {A = Asked A} noSuchEntry noSuchEntry) ↔ (0 ≤ i)
+none-there i = (λ e. omega arith, λ h. refl)
+
+once-value : {A : Type 0} (v : Answer Unit) (a x : A) (t : List ℕ) → onceAccepted v a t .answer ≡ accepted x → a ≡ x
+once-value (accepted u) a x t e = cc
+once-value (refused n vs) a x t e = let z : _≡_ {A = ℕ} 0 1 = cc in absurd (omega arith)
+
+then-value : {A : Type 0} (v : Answer Unit) (a x : A) → andThen v (λ (u : Unit). accepted a) ≡ accepted x → a ≡ x
+unfolding andThen
+then-value (accepted u) a x e = cc
+then-value (refused n vs) a x e = let z : _≡_ {A = ℕ} 0 1 = cc in absurd (omega arith)
+
+-- groups
+group-alike : (l : Listed) (b : List ℕ) (i : ℕ) → Alike (judgedAs l b) (groupListed l b i .answer)
+unfolding groupAs
+group-alike (listed m) b i = once-alike (judgedAs (listed m) b) _ _
+group-alike unlisted b i = both-accepted
+
+group-in : (h : Behind) (end : ℕ) (b : List ℕ) (i : ℕ) → (groupIn h end b i ≡ noSuchEntry) ↔ (groupsIn h end b ≤ i)
+group-in nothing end b i = none-there i
+group-in (groups g) end b i = below-none i (counted (groups g) end b) _
+group-in (entries e) end b i = none-there i
+
+group-none :
+    (l : Listed) (b : List ℕ) (i : ℕ) (x : Asked (List ℤ)) → groupListed l b i .answer ≡ accepted x → (x ≡ noSuchEntry) ↔ (groupsIn (behindOf l) (fieldsEnd l) b ≤ i)
+unfolding groupAs
+group-none (listed m) b i x e =
+    let a = once-value (judgedAs (listed m) b) (groupIn (behind m) (start m) b i) x _ e in
+    rw a at (group-in (behind m) (start m) b i)
+group-none unlisted b i x e = (λ f. omega arith, λ h. cc)
+
+pub group-reader : GroupReader
+unfolding groupAsked
+group-reader type b i r e =
+    let a = ap (λ (t : Told (Asked (List ℤ))). t .answer) e in
+    record {
+      judged = answered a (alike (group-alike (named type) b i) (by-body (named type) b));
+      none = λ x f. group-none (named type) b i x (sym a ∙ f);
+    }
+
+-- entries
+entry-in : (h : Behind) (end : ℕ) (b : List ℕ) (i : ℕ) → (entryIn h end b i ≡ noSuchEntry) ↔ (entriesIn h end b ≤ i)
+entry-in nothing end b i = none-there i
+entry-in (groups g) end b i = none-there i
+entry-in (entries e) end b i = below-none i (counted (entries e) end b) _
+
+entry-of : (l : Listed) (b : List ℕ) (i : ℕ) → (entryOf l b i ≡ noSuchEntry) ↔ (entriesIn (behindOf l) (fieldsEnd l) b ≤ i)
+entry-of (listed m) b i = entry-in (behind m) (start m) b i
+entry-of unlisted b i = none-there i
+
+pub entry-reader : EntryReader
+unfolding entryAsked
+entry-reader type b i r e =
+    record {
+      judged = answered e (alike (then-alike (judging type b) (entryOf (named type) b i)) (by-body (named type) b));
+      none = λ x f. rw (then-value (judging type b) (entryOf (named type) b i) x (sym e ∙ f)) at (entry-of (named type) b i);
+    }
+
+-- shown quantities
+quantity-by :
+    {A : Type 0} (x : Asked A) (h : Type 0) (y : Asked ℤ) (k : Type 0) → (x ≡ noSuchEntry) ↔ h → (y ≡ noSuchEntry) ↔ k → (ofFound x y ≡ noSuchEntry) ↔ (h ⊎ k)
+quantity-by (found a) h y k p q =
+    (λ e. inr (q .0 e), ⊎-elim (λ c. let f = p .1 c in let z : _≡_ {A = ℕ} 0 1 = cc in absurd (omega arith)) (λ c. q .1 c))
+quantity-by noSuchEntry h y k p q = (λ e. inl (p .0 refl), λ c. refl)
+
+quantity-in :
+    (h : Behind) (end : ℕ) (b : List ℕ) (i j : ℕ) → (quantityIn h end b i j ≡ noSuchEntry) ↔ ((entriesIn h end b ≤ i) ⊎ (shownIn h end b i ≤ j))
+quantity-in nothing end b i j = (λ e. inl (omega arith), λ c. refl)
+quantity-in (groups g) end b i j = (λ e. inl (omega arith), λ c. refl)
+quantity-in (entries e) end b i j =
+    quantity-by (entryIn (entries e) end b i) _ (quantityAt (entryGroup e) b (place (entryGroup e) b end i) j) _ (entry-in (entries e) end b i)
+    (below-none j (shown (entryGroup e) b (place (entryGroup e) b end i)) _)
+
+quantity-of :
+    (l : Listed) (b : List ℕ) (i j : ℕ) → (quantityOf l b i j ≡ noSuchEntry) ↔ ((entriesIn (behindOf l) (fieldsEnd l) b ≤ i) ⊎ (shownIn (behindOf l) (fieldsEnd l) b i ≤ j))
+quantity-of (listed m) b i j = quantity-in (behind m) (start m) b i j
+quantity-of unlisted b i j = quantity-in nothing 0 b i j
+
+pub quantity-reader : QuantityReader
+unfolding quantityAsked
+quantity-reader type b i j r e =
+    record {
+      judged = answered e (alike (then-alike (judging type b) (quantityOf (named type) b i j)) (by-body (named type) b));
+      none = λ x f. rw (then-value (judging type b) (quantityOf (named type) b i j) x (sym e ∙ f)) at (quantity-of (named type) b i j);
+    }
+
+-- a step
+module _ (e : Entries) (b : List ℕ) (c : At) (some : 0 < c .left) where
+  short : fit (entryGroup e) b (c .place) 1 ≡ false → length b < next (entryGroup e) b (c .place)
+  unfolding place
+  short f = place-beyond (entryGroup e) b (c .place) 1 f
+
+  by-entry :
+      Judged (notItsLayout if EntryLacks (entries e) b c ∷ outOfRange if EntryStrays (entries e) b c ∷ []) (judgedFrom (entryGroup e) b (c .place) 1)
+  unfolding judgedFrom
+  by-entry =
+      tested (not (fit (entryGroup e) b (c .place) 1)) (λ f. (some, short (not-true _ f)))
+      (λ f k. above (ahead (entryGroup e) b (c .place) 1 (omega arith) (not-false _ f) .whole) (k .1))
+      (λ f.
+      tested (not (groupRanges (entryGroup e) b (c .place) 1)) (λ g. (some, only-out (entryGroup e) b (c .place) (not-true _ g)))
+      (λ g k. only-in (entryGroup e) b (c .place) (not-false _ g) (k .1)) (λ g. success))
+
+step-judged :
+    (h : Behind) (b : List ℕ) (c : At) → Judged (notItsLayout if EntryLacks h b c ∷ outOfRange if EntryStrays h b c ∷ []) (stepIn h b c)
+unfolding guard
+step-judged nothing b c = later (λ z. z) (later (λ z. z) success)
+step-judged (groups g) b c = later (λ z. z) (later (λ z. z) success)
+step-judged (entries e) b c = go (eqb (c .left) 0) refl
+  where
+    go : (t : Bool) → eqb (c .left) 0 ≡ t →
+        Judged (notItsLayout if EntryLacks (entries e) b c ∷ outOfRange if EntryStrays (entries e) b c ∷ []) (stepIn (entries e) b c)
+    go true f =
+        let l = eqb-true (c .left) 0 f in
+        rw f (later (λ (k : EntryLacks (entries e) b c). omega (arith, l, k .0)) (later (λ (k : EntryStrays (entries e) b c). omega (arith, l, k .0)) success))
+    go false f = rw f (alike (then-alike (judgedFrom (entryGroup e) b (c .place) 1) _) (by-entry e b c (omega (arith, eqb-false (c .left) 0 f))))
+
+step-none : (h : Behind) (b : List ℕ) (c : At) (x : Asked Stepped) → stepIn h b c ≡ accepted x → (x ≡ noSuchEntry) ↔ (leftIn h c ≡ 0)
+unfolding guard
+step-none nothing b c x e = (λ f. refl, λ f. cc)
+step-none (groups g) b c x e = (λ f. refl, λ f. cc)
+step-none (entries e) b c x f = go (eqb (c .left) 0) refl
+  where
+    go : (t : Bool) → eqb (c .left) 0 ≡ t → (x ≡ noSuchEntry) ↔ (c .left ≡ 0)
+    go true g = let a : accepted noSuchEntry ≡ accepted x = rw g at f in (λ k. eqb-true (c .left) 0 g, λ k. cc)
+    go false g =
+        let a = then-value (judgedFrom (entryGroup e) b (c .place) 1) _ x (rw g at f) in
+        (λ k. let z : _≡_ {A = ℕ} 0 1 = cc in absurd (omega arith), λ k. absurd (eqb-false (c .left) 0 g k))
+
+step-of : (l : Listed) (b : List ℕ) (c : At) → stepOf l b c ≡ stepIn (behindOf l) b c
+unfolding stepOf
+step-of (listed m) b c = refl
+step-of unlisted b c = refl
+
+pub stepper : Stepper
+stepper type b c r e =
+    let f = e ∙ step-of (named type) b (paperCursor c) in
+    record {
+      judged = answered f (step-judged (behindOf (named type)) b (paperCursor c));
+      none = λ x g. step-none (behindOf (named type)) b (paperCursor c) x (sym f ∙ g);
+    }
+
+-- ---- the writer
+
+written-same :
+    (x : record-of.Reading) (ts gs out : List ℕ) (a : Answer ℕ) (n : ℕ) (vs : List ℕ) → a ≡ refused n vs → outputOf a x ts gs out ≡ out
+written-same x ts gs out a n vs e = rw e
+
+pub writer : Writer
+unfolding answering leaving
+writer r ts gs out after a e l =
+    record {
+      judged = answered e (by-judging (paperRecord r) ts gs (length out));
+      same = λ n vs f. l ∙ written-same (paperRecord r) ts gs out (writes (paperRecord r) ts gs (length out)) n vs (sym e ∙ f);
+    }
+
+-- ---- the tracker
+
+-- numbers of which the first is above p, and each above the one before it
+falls-behind : (p : ℕ) (l : List ℕ) → ascends (p + 1) l ≡ false → Falls (p ∷ l)
+unfolding ascends
+falls-behind p [] e = absurd (true≢false e)
+falls-behind p (n ∷ l) e = go (leb (p + 1) n) refl (λ f. falls-behind n l f)
+  where
+    go : (b : Bool) → leb (p + 1) n ≡ b → (ascends (n + 1) l ≡ false → Falls (n ∷ l)) → Falls (p ∷ n ∷ l)
+    go true h on =
+        let f = on (rw h at e) in
+        record { place = suc (f .place); inside = omega (arith, f .inside); falls = f .falls }
+    go false h on = record { place = 0; inside = omega arith; falls = omega (arith, leb-false (p + 1) n h) }
+
+rises-behind : (p : ℕ) (l : List ℕ) → ascends (p + 1) l ≡ true → (i : ℕ) → suc i < suc (length l) → getD (p ∷ l) (suc i) 0 ≤ getD (p ∷ l) i 0 → ⊥
+unfolding ascends
+rises-behind p [] e i h k = omega arith
+rises-behind p (n ∷ l) e zero h k = omega (arith, leb-true (p + 1) n (and-both (leb (p + 1) n) _ e .0))
+rises-behind p (n ∷ l) e (suc i) h k = rises-behind n l (and-both (leb (p + 1) n) _ e .1) i (omega arith) k
+
+falls-by : (l : List ℕ) → ascends 0 l ≡ false → Falls l
+unfolding ascends
+falls-by [] e = absurd (true≢false e)
+falls-by (n ∷ l) e = falls-behind n l (rw (le-leb 0 n zero-le) at e)
+
+rises-by : (l : List ℕ) → ascends 0 l ≡ true → Falls l → ⊥
+unfolding ascends
+rises-by [] e f = omega (arith, f .inside)
+rises-by (n ∷ l) e f = rises-behind n l (and-both (leb 0 n) _ e .1) (f .place) (f .inside) (f .falls)
+
+given-alike : (a : Answer Tracker) → Alike a (given a .said)
+given-alike (accepted t) = both-accepted
+given-alike (refused n v) = both-refused
+
+given-same : (a : Answer Tracker) (n : ℕ) (vs : List ℕ) → given a .said ≡ refused n vs → given a .tracker ≡ blankOf []
+given-same (accepted t) n vs e = let z : _≡_ {A = ℕ} 0 1 = cc in absurd (omega arith)
+given-same (refused m v) n vs e = refl
+
+-- the set-up's tests
+abbrev tests : List ℕ → Answer Tracker
+tests numbers =
+    guard (eqb (length numbers) 0) (refused malformed [])
+    (guard (ltb channelLimit (length numbers)) (refused malformed [])
+    (guard (not (ascends 0 numbers)) (refused malformed []) (accepted (blankOf numbers))))
+
+tests-judged : (numbers : List ℕ) → Judged (setUpRules numbers) (tests numbers)
+tests-judged numbers =
+    tested (eqb (length numbers) 0) (eqb-true (length numbers) 0) (eqb-false (length numbers) 0)
+    (λ e.
+    tested (ltb channelLimit (length numbers)) (ltb-true channelLimit (length numbers)) (λ f. above (ltb-false channelLimit (length numbers) f))
+    (λ f.
+    tested (not (ascends 0 numbers)) (λ g. falls-by numbers (not-true _ g)) (λ g. rises-by numbers (not-false _ g)) (λ g. success)))
+
+pub set-up : SetUp
+unfolding setUp
+set-up numbers r e =
+    let said = ap (λ (o : Ready). o .said) e in
+    record {
+      judged = answered said (alike (given-alike (tests numbers)) (tests-judged numbers));
+      same = λ n vs f. ap (λ (o : Ready). o .tracker) e ∙ given-same (tests numbers) n vs (sym said ∙ f);
+    }
+
+pub zero-breaks : ZeroBreaks
+unfolding wellFormed sound
+zero-breaks = refl
+
+-- the place of a channel is below the count exactly where its number is one of the tracker's
+not-in : (t : Tracker) (k : ℕ) → ltb (place-of t k) (t .count) ≡ false → NotIn t k
+unfolding place-of
+not-in t k e i h f = above (ltb-false (place-of t k) (t .count) e) (omega (arith, place-found (t .numbers) k 0 (t .count) i (omega arith) (omega arith) f))
+
+is-in : (t : Tracker) (k : ℕ) → ltb (place-of t k) (t .count) ≡ true → NotIn t k → ⊥
+unfolding place-of
+is-in t k e absent =
+    let h = ltb-true (place-of t k) (t .count) e in
+    absent (place-of t k) h (place-number (t .numbers) k 0 (t .count) (omega arith))
+
+low-yes : (e : Event) → tooLow e ≡ true → Low e
+low-yes (tick z) h = ltZ-yes (subst T (sym h) tt)
+low-yes (heartbeat z end) h = ltZ-yes (subst T (sym h) tt)
+
+low-no : (e : Event) → tooLow e ≡ false → Low e → ⊥
+low-no (tick z) h k = subst T h (k .lt)
+low-no (heartbeat z end) h k = subst T h (k .lt)
+
+settled-alike : (t : Tracker) (i : ℕ) (a : Answer channel-of.Step) → Alike a (settled t i a .said)
+settled-alike t i (accepted s) = both-accepted
+settled-alike t i (refused n v) = both-refused
+
+settled-same : (t : Tracker) (i : ℕ) (a : Answer channel-of.Step) (n : ℕ) (vs : List ℕ) → settled t i a .said ≡ refused n vs → settled t i a .next ≡ t
+settled-same t i (accepted s) n vs e = let z : _≡_ {A = ℕ} 0 1 = cc in absurd (omega arith)
+settled-same t i (refused m v) n vs e = refl
+
+-- an arrival's tests
+abbrev steps : Tracker → ℕ → Event → Answer channel-of.Step
+steps t k e =
+    guard (not (wellFormed t)) (refused malformed [])
+    (guard (not (ltb (place-of t k) (t .count))) (refused noSuchChannel []) (channel-of.judged (recordOf t k) e))
+
+steps-judged : (t : Tracker) (k : ℕ) (e : Event) → Judged (arrivalRules t k e) (steps t k e)
+unfolding channel-of.judged
+steps-judged t k e =
+    let runs = taken (recordOf t k) e .next .runs in
+    unless (wellFormed t)
+    (λ a.
+    tested (not (ltb (place-of t k) (t .count))) (λ b. not-in t k (not-true _ b)) (λ b. is-in t k (not-false _ b))
+    (λ b.
+    tested (tooLow e) (low-yes e) (low-no e)
+    (λ c. tested (ltb runLimit (length runs)) (ltb-true runLimit (length runs)) (λ d. above (ltb-false runLimit (length runs) d)) (λ d. success))))
+
+pub arrival : Arrival
+unfolding arrived
+arrival t k e r f =
+    let said = ap (λ (o : Outcome). o .said) f in
+    record {
+      judged = answered said (alike (settled-alike t (place-of t k) (steps t k e)) (steps-judged t k e));
+      same = λ n vs g. ap (λ (o : Outcome). o .next) f ∙ settled-same t (place-of t k) (steps t k e) n vs (sym said ∙ g);
+    }
+
+-- ---- the request
+
+then-guard :
+    {A B : Type 0} (b : Bool) (n : ℕ) (rest : Answer A) (f : A → Answer B) →
+    andThen (guard b (refused n []) rest) f ≡ guard b (refused n []) (andThen rest f)
+unfolding guard andThen
+then-guard true n rest f = refl
+then-guard false n rest f = refl
+
+guard-value : {A : Type 0} (b : Bool) (n : ℕ) (rest : Answer A) (x : A) → guard b (refused n []) rest ≡ accepted x → rest ≡ accepted x
+unfolding guard
+guard-value true n rest x e = let z : _≡_ {A = ℕ} 0 1 = cc in absurd (omega arith)
+guard-value false n rest x e = e
+
+-- a first run, and then 6
+fitting-judged : (l : List Run) (room : ℕ) → Judged (outputShort if ((l ≡ [] → ⊥) × (room < 12 + 44)) ∷ []) (fitting room (foremost l))
+fitting-judged [] room = later (λ (k : (_≡_ {A = List Run} [] [] → ⊥) × (room < 12 + 44)). k .0 refl) success
+fitting-judged (r ∷ l) room =
+    tested (ltb room requestLength)
+    (λ e. (λ f. let z : _≡_ {A = ℕ} 0 1 = cc in omega arith, omega (arith, request-length, ltb-true room requestLength e)))
+    (λ e k. above (ltb-false room requestLength e) (omega (arith, request-length, k .1))) (λ e. success)
+
+module _ (t : Tracker) (k : ℕ) where
+  -- the first run of the channel, behind 10 and 7
+  abbrev runs : List Run
+  runs = recordOf t k .runs
+
+  abbrev seated : Answer Lost
+  seated = guard (not (ltb (place-of t k) (t .count))) (refused noSuchChannel []) (accepted (foremost runs))
+
+  asks-judged : (room : ℕ) → Judged (requestRules t k room) (request.judging t k room)
+  unfolding request.judging firstRun andThen
+  asks-judged room =
+      answered (then-guard (not (wellFormed t)) malformed seated (fitting room))
+      (unless (wellFormed t)
+      (λ a.
+      answered (then-guard (not (ltb (place-of t k) (t .count))) noSuchChannel (accepted (foremost runs)) (fitting room))
+      (tested (not (ltb (place-of t k) (t .count))) (λ b. not-in t k (not-true _ b)) (λ b. is-in t k (not-false _ b))
+      (λ b. fitting-judged runs room))))
+
+  first-value : (v : Lost) → firstRun t k ≡ accepted v → foremost runs ≡ v
+  unfolding firstRun
+  first-value v e =
+      let a = guard-value (not (wellFormed t)) malformed seated v e in
+      let b = guard-value (not (ltb (place-of t k) (t .count))) noSuchChannel (accepted (foremost runs)) v a in
+      cc
+
+answer-alike : (a : Answer Lost) → Alike a (answerOf a)
+answer-alike (accepted x) = both-accepted
+answer-alike (refused n vs) = both-refused
+
+module _ (x : request.Said) (room : ℕ) where
+  none-by : (l : List Run) (b : Bool) → ltb room requestLength ≡ b → answerOf (fitting room (foremost l)) ≡ accepted x → (x ≡ request.nothing) ↔ (l ≡ [])
+  unfolding guard
+  none-by [] b f e = (λ g. refl, λ g. cc)
+  none-by (r ∷ l) true f e = let a : refused outputShort [] ≡ accepted x = rw f at e in let z : _≡_ {A = ℕ} 0 1 = cc in absurd (omega arith)
+  none-by (r ∷ l) false f e =
+      let a : accepted (request.written requestLength) ≡ accepted x = rw f at e in
+      (λ g. let z : _≡_ {A = ℕ} 0 1 = cc in absurd (omega arith), λ g. let z : _≡_ {A = ℕ} 0 1 = cc in absurd (omega arith))
+
+  none-first :
+      (t : Tracker) (k : ℕ) (y : Answer Lost) → firstRun t k ≡ y → answerOf (andThen y (fitting room)) ≡ accepted x →
+      (x ≡ request.nothing) ↔ (recordOf t k .runs ≡ [])
+  unfolding andThen
+  none-first t k (accepted v) f e =
+      none-by (recordOf t k .runs) (ltb room requestLength) refl (rw (← first-value t k v f) at e)
+  none-first t k (refused n vs) f e = let z : _≡_ {A = ℕ} 0 1 = cc in absurd (omega arith)
+
+module _ (k : ℕ) (out : List ℕ) where
+  unasked : (a : Answer Lost) (n : ℕ) (vs : List ℕ) → answerOf a ≡ refused n vs → request.outputOf a k out ≡ out
+  unasked (accepted v) n vs e = let z : _≡_ {A = ℕ} 0 1 = cc in absurd (omega arith)
+  unasked (refused m us) n vs e = refl
+
+  unwritten : (a : Answer Lost) → answerOf a ≡ accepted request.nothing → request.outputOf a k out ≡ out
+  unwritten (accepted (lost r)) e = let z : _≡_ {A = ℕ} 0 1 = cc in absurd (omega arith)
+  unwritten (accepted nothingMissing) e = refl
+  unwritten (refused n vs) e = refl
+
+pub requests : Request
+unfolding request.answering request.leaving request.judging
+requests t k out after a e l =
+    record {
+      kept = record {
+        judged = answered e (alike (answer-alike (request.judging t k (length out))) (asks-judged t k (length out)));
+        same = λ n vs f. l ∙ unasked k out (request.judging t k (length out)) n vs (sym e ∙ f);
+      };
+      none = λ x f. none-first x (length out) t k (firstRun t k) refl (sym e ∙ f);
+      unwritten = λ f. l ∙ unwritten k out (request.judging t k (length out)) (sym e ∙ f);
+    }

@@ -1,4 +1,6 @@
 pub mod Cases
+pub mod Out
+pub mod Rules
 pub mod Demand1
 pub mod Back
 pub mod Demand2

@@ -71,7 +71,7 @@ all-good (c ∷ cs) k = (known-good (k 0 (omega arith)), all-good cs (λ i h. k 
 
 -- ---- places
 
-place-number : (ms : List ℕ) (k i n : ℕ) → placeFrom ms k i n < i + n → getD ms (placeFrom ms k i n) 0 ≡ k
+pub place-number : (ms : List ℕ) (k i n : ℕ) → placeFrom ms k i n < i + n → getD ms (placeFrom ms k i n) 0 ≡ k
 unfolding placeFrom
 place-number ms k i zero h = absurd (omega arith)
 place-number ms k i (suc n) h = go (eqb (getD ms i 0) k) refl h (λ q. place-number ms k (suc i) n q)
@@ -82,7 +82,7 @@ place-number ms k i (suc n) h = go (eqb (getD ms i 0) k) refl h (λ q. place-num
     go false e h ih = rw e (ih (omega arith))
 
 -- a number that stands among the n places from i on is found there
-place-found : (ms : List ℕ) (k i n j : ℕ) → i ≤ j → j < i + n → getD ms j 0 ≡ k → placeFrom ms k i n < i + n
+pub place-found : (ms : List ℕ) (k i n j : ℕ) → i ≤ j → j < i + n → getD ms j 0 ≡ k → placeFrom ms k i n < i + n
 unfolding placeFrom
 place-found ms k i zero j a b e = absurd (omega arith)
 place-found ms k i (suc n) j a b e = go (eqb (getD ms i 0) k) refl (λ c. place-found ms k (suc i) n j c (omega arith) e)

@@ -3,50 +3,42 @@
 -- That a call follows document 01 is its promise, `paper r ≡ definition`. Here: what is accepted and what is written, and that nothing
 -- is lost on the way in either direction.
 -- Assumes nothing.
-use Prim.Native.Nat.{ℕ, _+_, _≤_, _<_}
+use Prim.Native.Nat.{ℕ, _+_, _≤_}
 use mathlib.Core.Path.{_≡_}
-use mathlib.Core.Bool.{false}
+use mathlib.Core.Logic.{_↔_}
 use mathlib.Core.List.{List, [], _∷_, _++_}
 use lib.IntN.{ℤ}
 use lib.ListN.{length, take, drop}
 use Rattle.wire.specs.Answer.{Answer, accepted, refused}
-use Rattle.wire.specs.Bytes.{Bytes, beAt, part}
-use Rattle.wire.specs.Refusal.{tooLong, notItsLayout, outOfRange, outputShort}
+use Rattle.wire.specs.Bytes.{Bytes}
 use Rattle.frame.specs.Framing.{framing, bodyOf, headerWidth, bodyLimit}
 use Rattle.frame.specs.declared.Frame.{Frame}
-use Rattle.layout.specs.Layout.{Message, fields, typeNumber, Listed, listed, unlisted, named}
-use Rattle.layout.specs.Group.{place, group, start, count, whole, inRange}
+use Rattle.layout.specs.Layout.{Message, fields, typeNumber, listed, named}
+use Rattle.layout.specs.Group.{needs}
 use Rattle.record.specs.Asked.{told}
 use Rattle.record.specs.Record.{Reading, known, unknown, frameReading, groupsPart}
 use Rattle.record.specs.Paper.{paperRecord, paperFrame}
 use Rattle.record.specs.declared.Record.{Record}
 use Rattle.record.specs.declared.framed.FrameReading.{FrameReading}
-use Rattle.writer.specs.Body.{Numbers, body, bodyLength, exact, allIn}
+use Rattle.writer.specs.Body.{Numbers, body, bodyLength}
 use Rattle.writer.specs.Write.{frameOf, answering, leaving}
 use Rattle.writer.specs.Paper.{paper}
 use Rattle.writer.specs.declared.Written.{Written}
-use Rattle.demands.specs.Demand1.{Rule, _if_, Judged, L, frameRules}
+use Rattle.demands.specs.Rules.{Rule, readerRules, writerRules}
 
--- ---- the reader accepts exactly the frames that none of 1 to 5 describes
+-- ---- acceptance: exactly where none of the conditions of specs/Rules holds
 
--- the body of a listed type lacks bytes of its layout; a field of it is out of range
-abbrev pub Lacks : Listed → List ℕ → Type 0
-Lacks (listed m) b = whole m b ≡ false
-Lacks unlisted b = ⊥
+-- accepted, whatever the value
+pub data Accepted {A : Type 0} : Answer A → Type 0 where
+  with-value : (x : A) → Accepted (accepted x)
 
-abbrev pub Strays : Listed → List ℕ → Type 0
-Strays (listed m) b = inRange m b ≡ false
-Strays unlisted b = ⊥
+abbrev pub NoneOf : List Rule → Type 0
+NoneOf [] = Unit
+NoneOf (r ∷ rs) = (r .when → ⊥) × NoneOf rs
 
-abbrev pub readerRules : List ℕ → List Rule
-readerRules s =
-    frameRules s
-    ++ (notItsLayout if Lacks (named (beAt s 0 4)) (part 8 (8 + L s) s)
-    ∷ outOfRange if Strays (named (beAt s 0 4)) (part 8 (8 + L s) s)
-    ∷ [])
-
-abbrev pub Reader : Type 1
-Reader = (s : List ℕ) (x : FrameReading) → paperFrame x ≡ frameReading s → Judged (readerRules s) (paperFrame x .answer)
+-- the reader accepts exactly the frames that none of 1 to 5 describes
+abbrev pub Reader : Type 0
+Reader = (s : List ℕ) (x : FrameReading) → paperFrame x ≡ frameReading s → Accepted (paperFrame x .answer) ↔ NoneOf (readerRules s)
 
 -- ---- the writer answers "written" exactly where none of 5, 4, 5, 2, 6 holds
 
@@ -55,14 +47,10 @@ pub record Call (r : Record) (ts gs out : List ℕ) (a : Written) (after : List 
   pub answers : paper a ≡ answering (paperRecord r) ts gs out
   pub leaves : after ≡ leaving (paperRecord r) ts gs out
 
-abbrev pub writerRules : Reading → List ℕ → List ℕ → ℕ → List Rule
-writerRules (unknown type) ts gs room = outOfRange if Unit ∷ []
-writerRules (known m zs) ts gs room =
-    notItsLayout if (exact m zs ts gs ≡ false)
-    ∷ outOfRange if (allIn m zs gs ≡ false)
-    ∷ tooLong if (bodyLimit < bodyLength m gs)
-    ∷ outputShort if (room < 12 + bodyLength m gs)
-    ∷ []
+abbrev pub Writer : Type 0
+Writer =
+    (r : Record) (ts gs out after : List ℕ) (a : Written) → Call r ts gs out a after →
+    Accepted (paper a) ↔ NoneOf (writerRules (paperRecord r) ts gs (length out))
 
 -- written: header, body by layout, checksum, and the old bytes behind them; refused: every byte as it stood
 pub data Holds (out : List ℕ) : Answer ℕ → Reading → List ℕ → List ℕ → List ℕ → Type 0 where
@@ -70,11 +58,6 @@ pub data Holds (out : List ℕ) : Answer ℕ → Reading → List ℕ → List �
       {m : Message} {zs : List ℤ} {ts gs : List ℕ} {n : ℕ} → n ≡ 12 + bodyLength m gs →
       Holds out (accepted n) (known m zs) ts gs (frameOf (typeNumber m) (body m zs ts gs) ++ drop n out)
   as-it-stood : {n : ℕ} {vs : List ℕ} {x : Reading} {ts gs : List ℕ} → Holds out (refused n vs) x ts gs out
-
-abbrev pub Writer : Type 1
-Writer =
-    (r : Record) (ts gs out after : List ℕ) (a : Written) → Call r ts gs out a after →
-    Judged (writerRules (paperRecord r) ts gs (length out)) (paper a)
 
 abbrev pub Output : Type 0
 Output =
@@ -104,7 +87,7 @@ ReadsBack =
 -- ---- "A frame of a listed type that is read and written again has the same bytes where its body has no extra tail"
 
 abbrev pub NoTail : Message → List ℕ → Type 0
-NoTail m b = place (group m) b (start m) (count m b) ≡ length b
+NoTail m b = needs m b ≡ length b
 
 abbrev pub SameBytes : Type 0
 SameBytes =
