@@ -41,9 +41,10 @@ use Rattle.tracker.specs.Request as request
 use Rattle.tracker.specs.Request.{requestLength, fitting, answerOf}
 use Rattle.tracker.proofs.Fitting.{request-length}
 use Rattle.demands.specs.Play.{recordOf}
-use Rattle.demands.specs.Rules.{_if_, Judged, success, later, L, bodyRules, behindOf, fieldsEnd, groupsIn, entriesIn, shownIn, leftIn, EntryLacks, EntryStrays, Falls, setUpRules, NotIn, Low, arrivalRules, requestRules}
+use Rattle.demands.specs.Rules.{_if_, Judged, success, later, L, bodyRules, behindOf, fieldsEnd, groupsIn, entriesIn, shownIn, leftIn, EntryLacks, EntryStrays, Falls, setUpRules, Keeps, NotIn, Low, arrivalRules, requestRules}
 use Rattle.demands.specs.Demand1.{FrameReader, FrameRecordReader, RecordReader, Judge, GroupReader, EntryReader, QuantityReader, Stepper, Writer, SetUp, ZeroBreaks, Arrival, Request}
-use Rattle.demands.proofs.Rules.{above, answered, tested, unless, Alike, both-accepted, both-refused, alike, in-turn, by-reading, by-body, by-judging}
+use Rattle.demands.proofs.Rules.{above, answered, tested, Alike, both-accepted, both-refused, alike, in-turn, by-reading, by-body, by-judging}
+use Rattle.demands.proofs.Keeps.{keeps-yes, keeps-sound}
 use Rattle.demands.proofs.Out.{only-out, only-in}
 use Rattle.demands.proofs.Played.{place-number, place-found}
 
@@ -322,8 +323,10 @@ set-up numbers r e =
     }
 
 pub zero-breaks : ZeroBreaks
-unfolding wellFormed sound
-zero-breaks = refl
+zero-breaks k = omega (arith, k .one)
+
+breaks : (t : Tracker) → wellFormed t ≡ false → Keeps t → ⊥
+breaks t e k = true≢false (sym (keeps-sound t k) ∙ e)
 
 -- the place of a channel is below the count exactly where its number is one of the tracker's
 not-in : (t : Tracker) (k : ℕ) → ltb (place-of t k) (t .count) ≡ false → NotIn t k
@@ -362,7 +365,7 @@ steps-judged : (t : Tracker) (k : ℕ) (e : Event) → Judged (arrivalRules t k 
 unfolding channel-of.judged
 steps-judged t k e =
     let runs = taken (recordOf t k) e .next .runs in
-    unless (wellFormed t)
+    tested (not (wellFormed t)) (λ a. breaks t (not-true _ a)) (λ a x. x (keeps-yes t (not-false _ a)))
     (λ a.
     tested (not (ltb (place-of t k) (t .count))) (λ b. not-in t k (not-true _ b)) (λ b. is-in t k (not-false _ b))
     (λ b.
@@ -412,7 +415,7 @@ module _ (t : Tracker) (k : ℕ) where
   unfolding request.judging firstRun andThen
   asks-judged room =
       answered (then-guard (not (wellFormed t)) malformed seated (fitting room))
-      (unless (wellFormed t)
+      (tested (not (wellFormed t)) (λ a. breaks t (not-true _ a)) (λ a x. x (keeps-yes t (not-false _ a)))
       (λ a.
       answered (then-guard (not (ltb (place-of t k) (t .count))) noSuchChannel (accepted (foremost runs)) (fitting room))
       (tested (not (ltb (place-of t k) (t .count))) (λ b. not-in t k (not-true _ b)) (λ b. is-in t k (not-false _ b))

@@ -1,5 +1,6 @@
 pub mod Cases
 pub mod Out
+pub mod Keeps
 pub mod Rules
 pub mod Demand1
 pub mod Back

@@ -7,7 +7,6 @@
 use Prim.Native.Nat.{ℕ, _≤_}
 use mathlib.Core.Path.{_≡_}
 use mathlib.Core.Logic.{_↔_, _⊎_}
-use mathlib.Core.Bool.{false}
 use mathlib.Core.List.{List, []}
 use lib.ListN.{length}
 use Rattle.wire.specs.Answer.{Answer, accepted, refused}
@@ -36,13 +35,12 @@ use Rattle.gaps.specs.Channel.{Event}
 use Rattle.tracker.specs.declared.Tracker.{Tracker}
 use Rattle.tracker.specs.declared.Started.{Started}
 use Rattle.tracker.specs.declared.Reply.{Reply}
-use Rattle.tracker.specs.Rules.{wellFormed}
 use Rattle.tracker.specs.SetUp as set-up
 use Rattle.tracker.specs.Arrived as arrival
 use Rattle.tracker.specs.Request as request
 use Rattle.tracker.specs.declared.Requested.{Requested}
 use Rattle.demands.specs.Play.{recordOf}
-use Rattle.demands.specs.Rules.{Rule, Judged, frameRules, bodyRules, readerRules, groupCount, entryCount, shownCount, entriesLeft, stepRules, writerRules, setUpRules, arrivalRules, requestRules}
+use Rattle.demands.specs.Rules.{Rule, Judged, frameRules, bodyRules, readerRules, groupCount, entryCount, shownCount, entriesLeft, stepRules, writerRules, setUpRules, Keeps, arrivalRules, requestRules}
 
 -- judged by the rules, and "no such entry" exactly where it is not below the count, "after 4 and 5"
 pub record ByPosition {A : Type 0} (rules : List Rule) (beyond : Type 0) (answer : Answer (Asked A)) : Type 1 where
@@ -104,7 +102,7 @@ SetUp =
 
 -- "with no channel, which later calls refuse by 10": it breaks the rules
 abbrev pub ZeroBreaks : Type 0
-ZeroBreaks = wellFormed (set-up.blankOf []) ≡ false
+ZeroBreaks = Keeps (set-up.blankOf []) → ⊥
 
 -- a tick, or a channel heartbeat
 abbrev pub Arrival : Type 1

@@ -18,11 +18,10 @@ use Rattle.layout.specs.Group.{shown, shownPlace, next, place, group, start, co
 use Rattle.record.specs.Record.{Reading, known, unknown}
 use Rattle.entries.specs.Entry.{At}
 use Rattle.writer.specs.Body.{bits, first, numbersBehind, bodyLength, textSize, stated}
-use Rattle.gaps.specs.Limits.{runLimit}
+use Rattle.gaps.specs.Limits.{runLimit, mostNumber}
 use Rattle.gaps.specs.Channel.{Event, tick, heartbeat, taken}
 use Rattle.tracker.specs.declared.Tracker.{Tracker}
 use Rattle.tracker.specs.Places.{channelLimit}
-use Rattle.tracker.specs.Rules.{wellFormed}
 use Rattle.demands.specs.Play.{recordOf}
 
 -- a refusal's number, and when document 01 gives it
@@ -187,6 +186,29 @@ abbrev pub setUpRules : List ℕ → List Rule
 setUpRules numbers =
     malformed if (length numbers ≡ 0) ∷ malformed if (channelLimit < length numbers) ∷ malformed if Falls numbers ∷ []
 
+-- ---- "a tracker handed in that breaks the rules above": those of "Tracker", place by place
+
+-- the first and the last number of run j of the channel at place i
+abbrev pub firstOf : Tracker → ℕ → ℕ → ℕ
+firstOf t i j = getD (t .first) (i * runLimit + j) 0
+
+abbrev pub lastOf : Tracker → ℕ → ℕ → ℕ
+lastOf t i j = getD (t .last) (i * runLimit + j) 0
+
+-- "1 to 8 channel numbers, strictly ascending"; "the highest number, an ended mark, and up to 32 runs of missing numbers, ascending,
+-- no two touching", none "outside 1 to the highest"; "unused places, of channels too, are zero"
+pub record Keeps (t : Tracker) : Type 0 where
+  pub one : 1 ≤ t .count
+  pub eight : t .count ≤ channelLimit
+  pub ascending : (i : ℕ) → suc i < t .count → getD (t .numbers) i 0 < getD (t .numbers) (suc i) 0
+  pub highest : (i : ℕ) → i < t .count → getD (t .highest) i 0 ≤ mostNumber
+  pub mark : (i : ℕ) → i < channelLimit → getD (t .ended) i 0 ≤ 1
+  pub runs : (i : ℕ) → i < t .count → getD (t .counts) i 0 ≤ runLimit
+  pub inside : (i j : ℕ) → i < t .count → j < getD (t .counts) i 0 → (1 ≤ firstOf t i j) × (firstOf t i j ≤ lastOf t i j) × (lastOf t i j ≤ getD (t .highest) i 0)
+  pub apart : (i j : ℕ) → i < t .count → suc j < getD (t .counts) i 0 → lastOf t i j + 1 < firstOf t i (suc j)
+  pub unused : (i : ℕ) → t .count ≤ i → i < channelLimit → (getD (t .numbers) i 0 ≡ 0) × (getD (t .highest) i 0 ≡ 0) × (getD (t .ended) i 0 ≡ 0) × (getD (t .counts) i 0 ≡ 0)
+  pub empty : (i j : ℕ) → i < channelLimit → getD (t .counts) i 0 ≤ j → j < runLimit → (firstOf t i j ≡ 0) × (lastOf t i j ≡ 0)
+
 -- ---- "Arrival: 7, 8, 9. [..] A malformed tracker, 10, comes before all others, in later calls too."
 
 -- "channel not in the tracker": none of its channels has that number
@@ -204,14 +226,14 @@ Overfills t k e = runLimit < length (taken (recordOf t k) e .next .runs)
 
 abbrev pub arrivalRules : Tracker → ℕ → Event → List Rule
 arrivalRules t k e =
-    malformed if (wellFormed t ≡ false) ∷ noSuchChannel if NotIn t k ∷ numberTooLow if Low e ∷ tableFull if Overfills t k e ∷ []
+    malformed if (Keeps t → ⊥) ∷ noSuchChannel if NotIn t k ∷ numberTooLow if Low e ∷ tableFull if Overfills t k e ∷ []
 
 -- ---- "Request: 7, nothing missing, 6", behind 10
 
 -- 6 is judged where there is a run to ask for: 390094 has 44 bytes
 abbrev pub requestRules : Tracker → ℕ → ℕ → List Rule
 requestRules t k room =
-    malformed if (wellFormed t ≡ false)
+    malformed if (Keeps t → ⊥)
     ∷ noSuchChannel if NotIn t k
     ∷ outputShort if ((recordOf t k .runs ≡ [] → ⊥) × (room < 12 + 44))
     ∷ []
