@@ -10,10 +10,13 @@ use Rattle.layout.specs.Group.{fit, groupRanges, judged}
 use Rattle.record.specs.Record.{readAs, reading, frameReading}
 use Rattle.gaps.specs.Gaps.{larger, has, cut, cutAll, grow, fill, canon}
 use Rattle.gaps.specs.Channel as channel
-use Rattle.tracker.specs.Places.{span, put}
-use Rattle.tracker.specs.Rules.{allZero, soundRow, soundRows, marks, blank, sound, wellFormed}
-use Rattle.tracker.specs.SetUp.{ascends, setUp}
-use Rattle.tracker.specs.Arrived.{placeFrom, place, arrived}
+use Rattle.seats.specs.Places.{span}
+use Rattle.tracker.specs.Places.{put}
+use Rattle.seats.specs.Rules.{allZero, soundRow, soundRows, marks, blank, sound, ascends}
+use Rattle.tracker.specs.Rules.{wellFormed}
+use Rattle.tracker.specs.SetUp.{setUp}
+use Rattle.seats.specs.Seat.{placeFrom}
+use Rattle.tracker.specs.Arrived.{place, arrived}
 use Rattle.demands.specs.Cases.{Each, done, _and_, cases}
 
 pub cases-hold : Each cases

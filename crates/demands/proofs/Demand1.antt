@@ -31,9 +31,10 @@ use Rattle.gaps.specs.Limits.{runLimit}
 use Rattle.gaps.specs.Channel as channel-of
 use Rattle.gaps.specs.Channel.{Event, tick, heartbeat, taken, tooLow}
 use Rattle.tracker.specs.declared.Tracker.{Tracker}
-use Rattle.tracker.specs.Places.{channelLimit}
-use Rattle.tracker.specs.Rules.{sound, wellFormed}
-use Rattle.tracker.specs.SetUp.{ascends, blankOf, Ready, given, setUp}
+use Rattle.seats.specs.Places.{channelLimit}
+use Rattle.seats.specs.Rules.{sound, ascends}
+use Rattle.tracker.specs.Rules.{wellFormed}
+use Rattle.tracker.specs.SetUp.{blankOf, Ready, given, setUp}
 use Rattle.tracker.specs.Arrived.{on, place as place-of, Outcome, settled, arrived}
 use Rattle.gaps.specs.declared.Run.{Run}
 use Rattle.tracker.specs.FirstRun.{Lost, lost, nothingMissing, foremost, firstRun}

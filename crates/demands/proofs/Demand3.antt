@@ -20,7 +20,8 @@ use Rattle.tracker.specs.declared.Tracker.{Tracker}
 use Rattle.tracker.specs.declared.Start.the-variants.{SetUp}
 use Rattle.tracker.specs.declared.Reply.{Reply}
 use Rattle.tracker.specs.Places.{channel}
-use Rattle.tracker.specs.SetUp.{ascends, blankOf, setUp, Ready, given, saidOf as beganOf}
+use Rattle.seats.specs.Rules.{ascends}
+use Rattle.tracker.specs.SetUp.{blankOf, setUp, Ready, given, saidOf as beganOf}
 use Rattle.tracker.specs.Arrived.{Arrival, on, place, Outcome, settled, arrived, saidOf, paper}
 use Rattle.tracker.specs.Rules.{wellFormed}
 use Rattle.tracker.proofs.Seated.{arrived-at}

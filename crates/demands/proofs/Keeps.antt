@@ -14,9 +14,10 @@ use Rattle.gaps.specs.Gaps.{canon}
 use Rattle.gaps.specs.Limits.{runLimit, mostNumber}
 use Rattle.gaps.proofs.Numbers.{and-split, lt-or-le}
 use Rattle.tracker.specs.declared.Tracker.{Tracker}
-use Rattle.tracker.specs.Places.{span}
+use Rattle.seats.specs.Places.{span}
 use Rattle.tracker.proofs.Seated.{well-row}
-use Rattle.tracker.specs.Rules.{allZero, soundRow, soundRows, marks, blank, sound, wellFormed}
+use Rattle.seats.specs.Rules.{allZero, soundRow, soundRows, marks, blank, sound}
+use Rattle.tracker.specs.Rules.{wellFormed}
 use Rattle.demands.specs.Rules.{firstOf, lastOf, Keeps}
 
 -- ---- places that are zero

@@ -25,7 +25,8 @@ use Rattle.gaps.proofs.Alone.{Judged, judge, leaves, words, after, play, answer
 use Rattle.tracker.specs.declared.Tracker.{Tracker}
 use Rattle.tracker.specs.Places.{channel}
 use Rattle.tracker.specs.Rules.{wellFormed}
-use Rattle.tracker.specs.Arrived.{Arrival, placeFrom, place, Outcome, settled, arrived, saidOf}
+use Rattle.seats.specs.Seat.{placeFrom}
+use Rattle.tracker.specs.Arrived.{Arrival, place, Outcome, settled, arrived, saidOf}
 use Rattle.tracker.proofs.Signed.{natural-most}
 use Rattle.tracker.proofs.Seated.{arrived-7, arrived-at}
 use Rattle.tracker.proofs.Holder.{holder, at, Good, AllGood, holder-put, holder-channel, holder-well, Listed}

@@ -12,7 +12,7 @@ use Rattle.gaps.specs.Channel.{Event, tick, heartbeat, new, late, duplicate, he
 use Rattle.gaps.specs.History.{Brought, top, ends, Missing, Overfull}
 use Rattle.tracker.specs.declared.Tracker.{Tracker}
 use Rattle.tracker.specs.declared.Reply.{Reply}
-use Rattle.tracker.specs.Places.{firstNumber}
+use Rattle.seats.specs.Places.{firstNumber}
 use Rattle.tracker.specs.SetUp.{setUp}
 use Rattle.tracker.specs.Arrived.{Arrival, on, saidOf, arrived, paper}
 use Rattle.demands.specs.Play.{Fresh, Told, Play, arrivals, only, answersTo, historyOf, NeverFull, Holds, recordOf, AllCallable, Playable}

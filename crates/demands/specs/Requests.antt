@@ -16,7 +16,7 @@ use Rattle.gaps.specs.declared.Run.{Run}
 use Rattle.gaps.specs.History.{Missing}
 use Rattle.tracker.specs.declared.Tracker.{Tracker}
 use Rattle.tracker.specs.FirstRun.{lost, firstRun}
-use Rattle.tracker.specs.Places.{firstNumber}
+use Rattle.seats.specs.Places.{firstNumber}
 use Rattle.tracker.specs.Request.{batch, asked, space, written, nothing, answering, leaving, paper}
 use Rattle.tracker.specs.declared.Requested.{Requested}
 use Rattle.demands.specs.Play.{Fresh, Told, Play, historyOf, Holds}

@@ -21,7 +21,7 @@ use Rattle.writer.specs.Body.{bits, first, numbersBehind, bodyLength, textSize,
 use Rattle.gaps.specs.Limits.{runLimit, mostNumber}
 use Rattle.gaps.specs.Channel.{Event, tick, heartbeat, taken}
 use Rattle.tracker.specs.declared.Tracker.{Tracker}
-use Rattle.tracker.specs.Places.{channelLimit}
+use Rattle.seats.specs.Places.{channelLimit}
 use Rattle.demands.specs.Play.{recordOf}
 
 -- a refusal's number, and when document 01 gives it

@@ -1,4 +1,4 @@
--- The walk over a list of channel numbers, and the places that it fills.
+-- The places that a list of channel numbers fills.
 use Prim.Native.Nat.{ℕ, suc, _+_, _-_, _≤_, _<_}
 use native.Mathlib.Omega.{arith}
 use native.Mathlib.Numerals.{add-one}
@@ -9,22 +9,6 @@ use lib.ListN.{length, take, drop, getD, set, replicate}
 use lib.Seq.{drop-cons, drop-length, take-suc, length-take-le, set-at, take-length}
 use borrow.Author.Tests.{le-leb, lt-leb}
 use Rattle.gaps.specs.Built.{padded}
-use Rattle.tracker.specs.SetUp.{ascends}
-
-module _ (l : List ℕ) (i : ℕ) (h : i < length l) (lo : ℕ) where
-  pub ascends-low : getD l i 0 < lo → ascends lo (drop i l) ≡ false
-  unfolding ascends
-  ascends-low p = rw (drop-cons l i 0 h, lt-leb lo (getD l i 0) p)
-
-  pub ascends-pass : lo ≤ getD l i 0 → ascends lo (drop i l) ≡ ascends (getD l i 0 + 1) (drop (i + 1) l)
-  unfolding ascends
-  ascends-pass p = rw (drop-cons l i 0 h, le-leb lo (getD l i 0) p, add-one i)
-
-pub ascends-end : (l : List ℕ) (i : ℕ) (lo : ℕ) → i ≡ length l → ascends lo (drop i l) ≡ true
-unfolding ascends
-ascends-end l i lo e = rw (e, drop-length l)
-
--- ---- the places that are filled so far
 
 abbrev pub filled : List ℕ → ℕ → List ℕ
 filled l i = take i l ++ replicate (8 - i) 0

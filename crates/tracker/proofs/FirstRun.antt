@@ -14,14 +14,17 @@ use Rattle.gaps.specs.Gaps.{run, canon}
 use Rattle.gaps.specs.Limits.{runLimit, mostNumber}
 use Rattle.gaps.proofs.Numbers.{and-split}
 use Rattle.tracker.specs.declared.Tracker.{Tracker}
-use Rattle.tracker.specs.declared.Seat.{Seat}
-use Rattle.tracker.specs.declared.Seat.the-variants as seat
-use Rattle.tracker.specs.Places.{channel, firstNumber, span}
-use Rattle.tracker.specs.Rules.{soundRow, wellFormed}
+use Rattle.seats.specs.Seat.{paper}
+use Rattle.seats.specs.declared.Seat.{Seat}
+use Rattle.seats.specs.declared.Seat.the-variants as seat
+use Rattle.seats.specs.Places.{firstNumber, span}
+use Rattle.tracker.specs.Places.{channel}
+use Rattle.seats.specs.Rules.{soundRow}
+use Rattle.tracker.specs.Rules.{wellFormed}
 use Rattle.tracker.specs.Arrived.{place}
 use Rattle.tracker.specs.Inside.{Kept}
 use Rattle.tracker.specs.FirstRun.{Lost, lost, nothingMissing, foremost, firstRun}
-use Rattle.tracker.proofs.Seated.{well-row, seatIn, Sits, sits-10, sits-7, sits-at, sits}
+use Rattle.tracker.proofs.Seated.{well-row, seatIn, Sits, sits-10, sits-7, sits-at, sits, told}
 
 -- ---- by the seat
 
@@ -36,8 +39,8 @@ by-seat t k s (sits-10 a) = rw a
 by-seat t k s (sits-7 a b) = rw (a, le-ltb (place t k) (t .count) b)
 by-seat t k s (sits-at a b) = rw (a, lt-ltb (place t k) (t .count) b)
 
-pub first-seat : (t : Tracker) (k : ℕ) {s x : Seat} → s ≡ seatIn t k → s ≡ x → firstRun t k ≡ firstAt t x
-first-seat t k q p = by-seat t k (seatIn t k) (sits t k) ∙ ap (λ (y : Seat). firstAt t y) (sym q ∙ p)
+pub first-seat : (t : Tracker) (k : ℕ) {s x : Seat} → paper s ≡ seatIn t k → s ≡ x → firstRun t k ≡ firstAt t x
+first-seat t k {s = s} q p = by-seat t k s (told t k s q) ∙ ap (λ (y : Seat). firstAt t y) p
 
 -- ---- of the n runs from a place on
 
@@ -85,7 +88,7 @@ pub record Foremost (t : Tracker) (k : ℕ) (x : Lost) : Type 0 where
   pub same : foremost (channel t (place t k) .runs) ≡ x
 
 pub first-of : (t : Tracker) (k : ℕ) (x : Lost) → firstRun t k ≡ accepted x → Foremost t k x
-first-of t k x e = go (seatIn t k) (sits t k) (sym (by-seat t k (seatIn t k) (sits t k)) ∙ e)
+first-of t k x e = let z = sits t k in go (z .seat) (z .tells) (sym (by-seat t k (z .seat) (z .tells)) ∙ e)
   where
     go : (s : Seat) → Sits t k s → firstAt t s ≡ accepted x → Foremost t k x
     go s (sits-10 a) p = absurd (let z : _≡_ {A = ℕ} 0 1 = cc in omega arith)

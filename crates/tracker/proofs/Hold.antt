@@ -11,7 +11,7 @@ use Rattle.gaps.specs.declared.Run.{Run}
 use Rattle.gaps.specs.Gaps.{run, has, canon}
 use Rattle.gaps.proofs.Cut.{cut-front, cut-back}
 use Rattle.gaps.proofs.Sets.{canon-yes, yes-canon, low, has-in}
-use Rattle.tracker.specs.Places.{span}
+use Rattle.seats.specs.Places.{span}
 use Rattle.tracker.specs.declared.Held.the-variants.{AtEnd, Within}
 use Rattle.tracker.specs.Inside.{Ordered, Found, Finds, finds-end, finds-within}
 

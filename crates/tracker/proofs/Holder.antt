@@ -15,9 +15,11 @@ use Rattle.gaps.specs.Channel.{Channel, fresh}
 use Rattle.gaps.specs.Built.{firsts, lasts, padded}
 use Rattle.gaps.proofs.Numbers.{and-split}
 use Rattle.tracker.specs.declared.Tracker.{Tracker}
-use Rattle.tracker.specs.Places.{span, mark, channel, put}
-use Rattle.tracker.specs.Rules.{allZero, soundRow, soundRows, marks, blank, sound, wellFormed}
-use Rattle.tracker.specs.SetUp.{ascends, blankOf}
+use Rattle.seats.specs.Places.{span}
+use Rattle.tracker.specs.Places.{mark, channel, put}
+use Rattle.seats.specs.Rules.{allZero, soundRow, soundRows, marks, blank, sound, ascends}
+use Rattle.tracker.specs.Rules.{wellFormed}
+use Rattle.tracker.specs.SetUp.{blankOf}
 use Rattle.tracker.proofs.Row.{cells, cells-add, cells-length}
 
 -- ---- lists in equal parts

@@ -27,8 +27,9 @@ use Rattle.gaps.proofs.Alone.{judged-low}
 use Rattle.tracker.specs.declared.Tracker.{Tracker}
 use Rattle.tracker.specs.declared.Gap.{Gap}
 use Rattle.tracker.specs.Places.{mark, channel, put}
-use Rattle.tracker.specs.declared.Seat.{Seat}
-use Rattle.tracker.specs.declared.Seat.the-variants.{At}
+use Rattle.seats.specs.Seat.{paper}
+use Rattle.seats.specs.declared.Seat.{Seat}
+use Rattle.seats.specs.declared.Seat.the-variants.{At}
 use Rattle.tracker.specs.Arrived.{on, settled, arrived}
 use Rattle.tracker.specs.declared.Held.{Held}
 use Rattle.tracker.specs.declared.Held.the-variants.{No, AtEnd, Within}
@@ -293,7 +294,7 @@ module _ (t : Tracker) (i n : ℕ) (w : RowOf t i) (p : 1 ≤ n) (h : n ≤ getD
 
 -- ---- from a channel's seat to its judgement, for numbers as the code holds them
 
-module _ (t : Tracker) (k : ℕ) (s : Seat) (q : s ≡ seatIn t k) (i : ℕ) (r : s ≡ At i) where
+module _ (t : Tracker) (k : ℕ) (s : Seat) (q : paper s ≡ seatIn t k) (i : ℕ) (r : s ≡ At i) where
   pub seat-row : RowOf t i × (i < 8)
   seat-row = let a = seat-at t k (tick (pos 0)) s q i r .0 in (kept-within t i a, a .place)
 

@@ -1,6 +1,4 @@
 pub mod Signed
-pub mod Span
-pub mod Heads
 pub mod Row
 pub mod Begin
 pub mod Hold

@@ -16,8 +16,9 @@ use Rattle.gaps.specs.Built.{firsts, lasts, padded}
 use Rattle.gaps.proofs.Numbers.{and-split}
 use Rattle.gaps.proofs.Pack.{map-append}
 use Rattle.tracker.specs.declared.Tracker.{Tracker}
-use Rattle.tracker.specs.Places.{span, mark, channel, put}
-use Rattle.tracker.specs.Rules.{soundRow}
+use Rattle.seats.specs.Places.{span}
+use Rattle.tracker.specs.Places.{mark, channel, put}
+use Rattle.seats.specs.Rules.{soundRow}
 use Rattle.tracker.specs.Inside.{Kept}
 use Rattle.tracker.proofs.Row.{cells, sets-same, sets-set, pad-row, pad-push, pad-set, span-firsts, span-lasts, span-length, span-take, zero-places}
 

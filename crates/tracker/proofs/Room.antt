@@ -8,7 +8,7 @@ use lib.ListN.{getD, length-append}
 use Rattle.gaps.specs.Gaps.{run, grow}
 use Rattle.gaps.proofs.Grow.{grow-apart, grow-touch}
 use Rattle.tracker.specs.declared.Gap.{Gap}
-use Rattle.tracker.specs.Places.{span}
+use Rattle.seats.specs.Places.{span}
 use Rattle.tracker.specs.Inside.{Room, Grows}
 use Rattle.tracker.proofs.Row.{span-length, span-last, span-take}
 

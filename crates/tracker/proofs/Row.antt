@@ -14,8 +14,8 @@ use Rattle.gaps.specs.Gaps.{run, cut, cutAll}
 use Rattle.gaps.specs.Built.{firsts, lasts, padded}
 use Rattle.gaps.proofs.Numbers.{and-split}
 use Rattle.gaps.proofs.Cut.{cutAll-append}
-use Rattle.tracker.specs.Places.{span}
-use Rattle.tracker.specs.Rules.{allZero}
+use Rattle.seats.specs.Places.{span}
+use Rattle.seats.specs.Rules.{allZero}
 
 -- the n numbers from place b on
 abbrev pub cells : List ℕ → ℕ → ℕ → List ℕ

@@ -7,18 +7,21 @@ use mathlib.Core.Bool.{Bool, true, false, cond, not}
 use lib.Dec.{leb, eqb, ltb}
 use lib.ListN.{getD}
 use borrow.Author.Tests.{leb-true, ltb-true, ltb-false, lt-ltb, le-ltb}
-use Rattle.wire.specs.Answer.{refused, guard}
+use Rattle.wire.specs.Answer.{Answer, refused, guard}
 use Rattle.wire.specs.Refusal.{noSuchChannel, malformed}
 use Rattle.gaps.specs.Channel.{Event, judged}
 use Rattle.gaps.proofs.Numbers.{and-split}
 use Rattle.tracker.specs.declared.Tracker.{Tracker}
-use Rattle.tracker.specs.declared.Seat.{Seat}
-use Rattle.tracker.specs.declared.Seat.the-variants.{Malformed, NotInTracker, At}
+use Rattle.seats.specs.declared.Seat.{Seat}
+use Rattle.seats.specs.declared.Seat.the-variants.{Malformed, NotInTracker, At}
 use Rattle.tracker.specs.Places.{channel}
-use Rattle.tracker.specs.Rules.{soundRow, soundRows, marks, sound, wellFormed}
+use Rattle.seats.specs.Rules.{soundRow, soundRows, marks, sound}
+use Rattle.tracker.specs.Rules.{wellFormed}
 use Rattle.tracker.specs.Arrived.{on, place, settled, arrived}
-use Rattle.tracker.specs.Inside.{Kept, seatOf}
-use Rattle.tracker.proofs.Heads.{marks-at}
+use Rattle.seats.specs.Seat.{seating, paper}
+use Rattle.tracker.specs.Inside.{Kept}
+use Rattle.seats.proofs.Heads.{marks-at, sound-count}
+use Rattle.seats.proofs.Unique.{one-seat}
 
 rows-at : (ns hs cs f l : List ℕ) (lo i n j : ℕ) → soundRows ns hs cs f l lo i n ≡ true → j < n →
     soundRow (getD hs (i + j) 0) (getD cs (i + j) 0) f l ((i + j) * 32) ≡ true
@@ -30,10 +33,6 @@ rows-at ns hs cs f l lo i (suc n) zero e h =
 rows-at ns hs cs f l lo i (suc n) (suc j) e h =
     let g : i + suc j ≡ suc i + j = omega arith in
     rw g (rows-at ns hs cs f l (getD ns i 0 + 1) (suc i) n j (and-split (soundRow (getD hs i 0) (getD cs i 0) f l (i * 32)) _ (and-split (leb lo (getD ns i 0)) _ e .1) .1) (omega arith))
-
-pub sound-count : (count : ℕ) (ns hs es cs f l : List ℕ) → sound count ns hs es cs f l ≡ true → count ≤ 8
-unfolding sound
-sound-count count ns hs es cs f l e = leb-true count 8 (and-split (leb count 8) _ (and-split (not (eqb count 0)) _ e .1) .0)
 
 module _ (t : Tracker) (e : wellFormed t ≡ true) where
   pub well-count : t .count ≤ 8
@@ -68,8 +67,8 @@ module _ (t : Tracker) (k : ℕ) (e : Event) where
 
 -- ---- a seat
 
-abbrev pub seatIn : Tracker → ℕ → Seat
-seatIn t k = seatOf k (t .count) (t .numbers) (t .highest) (t .ended) (t .counts) (t .first) (t .last)
+abbrev pub seatIn : Tracker → ℕ → Answer ℕ
+seatIn t k = seating k (t .count) (t .numbers) (t .highest) (t .ended) (t .counts) (t .first) (t .last)
 
 -- what each seat tells
 pub data Sits (t : Tracker) (k : ℕ) : Seat → Type 0 where
@@ -77,18 +76,30 @@ pub data Sits (t : Tracker) (k : ℕ) : Seat → Type 0 where
   sits-7 : wellFormed t ≡ true → t .count ≤ place t k → Sits t k NotInTracker
   sits-at : wellFormed t ≡ true → place t k < t .count → Sits t k (At (place t k))
 
-pub sits : (t : Tracker) (k : ℕ) → Sits t k (seatIn t k)
-unfolding seatOf wellFormed place
+-- the seat of channel k, and what it tells
+pub record Sitting (t : Tracker) (k : ℕ) : Type 0 where
+  pub seat : Seat
+  pub meets : paper seat ≡ seatIn t k
+  pub tells : Sits t k seat
+
+pub sits : (t : Tracker) (k : ℕ) → Sitting t k
+unfolding seating wellFormed place guard
 sits t k = go (wellFormed t) refl (ltb (place t k) (t .count)) refl
   where
-    go : (a : Bool) → wellFormed t ≡ a → (b : Bool) → ltb (place t k) (t .count) ≡ b → Sits t k (cond a (cond b (At (place t k)) NotInTracker) Malformed)
-    go true p true q = sits-at p (ltb-true (place t k) (t .count) q)
-    go true p false q = sits-7 p (ltb-false (place t k) (t .count) q)
-    go false p b q = sits-10 p
+    go : (a : Bool) → wellFormed t ≡ a → (b : Bool) → ltb (place t k) (t .count) ≡ b → Sitting t k
+    go true p true q = record { seat = At (place t k); meets = rw (p, q); tells = sits-at p (ltb-true (place t k) (t .count) q) }
+    go true p false q = record { seat = NotInTracker; meets = rw (p, q); tells = sits-7 p (ltb-false (place t k) (t .count) q) }
+    go false p b q = record { seat = Malformed; meets = rw p; tells = sits-10 p }
 
-module _ (t : Tracker) (k : ℕ) (e : Event) (s : Seat) (q : s ≡ seatIn t k) where
+-- a seat that meets the promise tells so
+pub told : (t : Tracker) (k : ℕ) (s : Seat) → paper s ≡ seatIn t k → Sits t k s
+told t k s q =
+    let z = sits t k in
+    rw (one-seat (z .seat) s (z .meets) q) at (z .tells)
+
+module _ (t : Tracker) (k : ℕ) (e : Event) (s : Seat) (q : paper s ≡ seatIn t k) where
   pub seat-10 : s ≡ Malformed → arrived t (on k e) ≡ record { said = refused malformed []; next = t }
-  seat-10 p = go (seatIn t k) (sits t k) (sym q ∙ p)
+  seat-10 p = go s (told t k s q) p
     where
       go : (r : Seat) → Sits t k r → r ≡ Malformed → arrived t (on k e) ≡ record { said = refused malformed []; next = t }
       go r (sits-10 a) p = arrived-10 t k e a
@@ -96,7 +107,7 @@ module _ (t : Tracker) (k : ℕ) (e : Event) (s : Seat) (q : s ≡ seatIn t k) w
       go r (sits-at a b) p = absurd (let z : _≡_ {A = ℕ} 0 1 = cc in omega arith)
 
   pub seat-7 : s ≡ NotInTracker → arrived t (on k e) ≡ record { said = refused noSuchChannel []; next = t }
-  seat-7 p = go (seatIn t k) (sits t k) (sym q ∙ p)
+  seat-7 p = go s (told t k s q) p
     where
       go : (r : Seat) → Sits t k r → r ≡ NotInTracker → arrived t (on k e) ≡ record { said = refused noSuchChannel []; next = t }
       go r (sits-10 a) p = absurd (let z : _≡_ {A = ℕ} 0 1 = cc in omega arith)
@@ -105,7 +116,7 @@ module _ (t : Tracker) (k : ℕ) (e : Event) (s : Seat) (q : s ≡ seatIn t k) w
 
   -- the channel is there: its row keeps the rules, and the answer is the channel's
   pub seat-at : (i : ℕ) → s ≡ At i → Kept t i × (arrived t (on k e) ≡ settled t i (judged (channel t i) e))
-  seat-at i p = go (seatIn t k) (sits t k) (sym q ∙ p)
+  seat-at i p = go s (told t k s q) p
     where
       go : (r : Seat) → Sits t k r → r ≡ At i → Kept t i × (arrived t (on k e) ≡ settled t i (judged (channel t i) e))
       go r (sits-10 a) p = absurd (let z : _≡_ {A = ℕ} 0 1 = cc in omega arith)

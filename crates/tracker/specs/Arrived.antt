@@ -7,6 +7,7 @@ use lib.ListN.{getD}
 use Rattle.wire.specs.Answer.{Answer, accepted, refused, guard}
 use Rattle.wire.specs.Refusal.{noSuchChannel, numberTooLow, tableFull, malformed}
 use Rattle.gaps.specs.Channel.{Event, Said, new, late, duplicate, heard, Step, judged}
+use Rattle.seats.specs.Seat.{placeFrom}
 use Rattle.tracker.specs.declared.Tracker.{Tracker}
 use Rattle.tracker.specs.declared.Verdict.{Verdict}
 use Rattle.tracker.specs.declared.Verdict.the-variants.{New, Late, Duplicate, Heard, NotInTracker, BelowRange, Full, Malformed}
@@ -22,11 +23,6 @@ pub record Arrival : Type 0 where
 -- the event e on channel k
 abbrev pub on : ℕ → Event → Arrival
 on k e = record { channel = k; event = e }
-
--- the place of channel k among the n from place i on, or the place behind them
-unfoldable pub placeFrom : List ℕ → ℕ → ℕ → ℕ → ℕ
-placeFrom numbers k i zero = i
-placeFrom numbers k i (suc n) = cond (eqb (getD numbers i 0) k) i (placeFrom numbers k (suc i) n)
 
 -- the place of channel k; the count of channels where it is "not in the tracker"
 unfoldable pub place : Tracker → ℕ → ℕ

@@ -17,19 +17,14 @@ use Rattle.tracker.specs.declared.Wanted.the-variants as wanted
 use Rattle.tracker.specs.declared.Gap.{Gap}
 use Rattle.tracker.specs.declared.Held.{Held}
 use Rattle.tracker.specs.declared.Held.the-variants.{No, AtEnd, Within}
-use Rattle.tracker.specs.declared.Seat.{Seat}
-use Rattle.tracker.specs.declared.Seat.the-variants.{Malformed, NotInTracker, At}
-use Rattle.tracker.specs.Places.{channelLimit, span, put}
-use Rattle.tracker.specs.Rules.{soundRow, sound}
-use Rattle.tracker.specs.Arrived.{Outcome, placeFrom}
+use Rattle.seats.specs.declared.Seat.{Seat}
+use Rattle.seats.specs.declared.Seat.the-variants.{Malformed, NotInTracker, At}
+use Rattle.seats.specs.Places.{channelLimit, span}
+use Rattle.tracker.specs.Places.{put}
+use Rattle.seats.specs.Rules.{soundRow, sound}
+use Rattle.seats.specs.Seat.{placeFrom}
+use Rattle.tracker.specs.Arrived.{Outcome}
 use Rattle.tracker.specs.FirstRun.{Lost, lost, nothingMissing}
-
--- where a channel stands: 10, then 7, then its place
-unfoldable pub seatOf : ℕ → ℕ → List ℕ → List ℕ → List ℕ → List ℕ → List ℕ → List ℕ → Seat
-seatOf k count numbers highest ended counts first last =
-    cond (sound count numbers highest ended counts first last)
-    (cond (ltb (placeFrom numbers k 0 count) count) (At (placeFrom numbers k 0 count)) NotInTracker)
-    Malformed
 
 -- the channel at place i keeps the rules
 pub record Kept (t : Tracker) (i : ℕ) : Type 0 where

@@ -10,24 +10,8 @@ use Rattle.gaps.specs.Gaps.{run}
 use Rattle.gaps.specs.Limits.{runLimit}
 use Rattle.gaps.specs.Channel.{Channel}
 use Rattle.gaps.specs.Built.{firsts, lasts, padded}
+use Rattle.seats.specs.Places.{span}
 use Rattle.tracker.specs.declared.Tracker.{Tracker}
-
--- "1 to 8 channel numbers"
-abbrev pub channelLimit : ℕ
-channelLimit = 8
-
--- the places of all channels' runs
-abbrev pub placeCount : ℕ
-placeCount = channelLimit * runLimit
-
--- the number that a channel starts with
-abbrev pub firstNumber : ℕ
-firstNumber = 1
-
--- the n runs from place i on
-unfoldable pub span : List ℕ → List ℕ → ℕ → ℕ → List Run
-span f l i zero = []
-span f l i (suc n) = run (getD f i 0) (getD l i 0) ∷ span f l (suc i) n
 
 -- "an ended mark" in its place: 1 where it is set, else 0
 abbrev pub mark : Bool → ℕ

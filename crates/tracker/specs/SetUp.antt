@@ -7,16 +7,12 @@ use lib.ListN.{length, replicate}
 use Rattle.wire.specs.Answer.{Answer, accepted, refused, guard}
 use Rattle.wire.specs.Refusal.{malformed}
 use Rattle.gaps.specs.Built.{padded}
+use Rattle.seats.specs.Places.{channelLimit, placeCount}
+use Rattle.seats.specs.Rules.{ascends}
 use Rattle.tracker.specs.declared.Tracker.{Tracker}
 use Rattle.tracker.specs.declared.Start.{Start}
 use Rattle.tracker.specs.declared.Start.the-variants.{SetUp, Malformed}
 use Rattle.tracker.specs.declared.Started.{Started}
-use Rattle.tracker.specs.Places.{channelLimit, placeCount}
-
--- "strictly ascending", from lo on
-unfoldable pub ascends : ℕ → List ℕ → Bool
-ascends lo [] = true
-ascends lo (n ∷ l) = leb lo n && ascends (n + 1) l
 
 -- a count of channels and their numbers, all else zero
 abbrev pub blankWith : ℕ → List ℕ → Tracker

@@ -10,10 +10,12 @@ ghost use Rattle.tracker.specs.Request.{answering, leaving, paper as req
 ghost use Rattle.tracker.specs.Inside.{Kept, lostOf, stored};
 use gaps::Run;
 use gaps::Runs;
+use seats::Seat;
+use seats::ascending;
+use seats::seat_of;
 
 mod places;
 mod request;
-mod rules;
 mod signs;
 
 // Each channel's number, highest number, ended mark and count of runs, and the runs of all of them; unused places are zero.
@@ -94,19 +96,12 @@ enum Held {
     Within,
 }
 
-// Where a channel stands in a tracker.
-enum Seat {
-    Malformed,
-    NotInTracker,
-    At(usize),
-}
-
 impl Tracker {
     // The most channels that a tracker holds.
-    pub const CHANNELS: usize = 8;
+    pub const CHANNELS: usize = Seat::COUNT;
 
     // The places of all channels' runs.
-    const PLACES: usize = Tracker::CHANNELS * Runs::LIMIT;
+    const PLACES: usize = Seat::PLACES;
 
     // A tracker of these channels that nothing has reached, or the all-zero tracker where they are refused.
     pub fn set_up(numbers: &[u16]) -> Started
@@ -125,7 +120,7 @@ impl Tracker {
                 tracker: Tracker::blank(0, [0; Tracker::CHANNELS]),
             };
         }
-        if rules::ascending(numbers) {
+        if ascending(numbers) {
             return Started {
                 verdict: Start::SetUp,
                 tracker: Tracker::blank(n, places::padded(numbers)),
@@ -156,7 +151,7 @@ impl Tracker {
     pub fn tick(mut self, channel: u16, number: i64) -> Reply
         ensures { λ r. ⌜ paper r ≡ arrived self (on channel (tick number)) ⌝ }
     {
-        let seat = rules::seat(
+        let seat = seat_of(
             channel,
             self.count,
             &self.numbers,
@@ -209,7 +204,7 @@ impl Tracker {
     pub fn heartbeat(mut self, channel: u16, last: i64, end: bool) -> Reply
         ensures { λ r. ⌜ paper r ≡ arrived self (on channel (heartbeat last end)) ⌝ }
     {
-        let seat = rules::seat(
+        let seat = seat_of(
             channel,
             self.count,
             &self.numbers,
@@ -258,7 +253,7 @@ impl Tracker {
     fn first_run(self, channel: u16) -> Wanted
         ensures { λ r. ⌜ lostOf r ≡ firstRun self channel ⌝ }
     {
-        let seat = rules::seat(
+        let seat = seat_of(
             channel,
             self.count,
             &self.numbers,

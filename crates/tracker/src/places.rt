@@ -6,8 +6,9 @@ ghost use Rattle.gaps.specs.Gaps.{cutAll};
 ghost use Rattle.gaps.specs.Limits.{runLimit, mostNumber};
 ghost use Rattle.gaps.specs.Built.{packed, padded};
 ghost use lib.ListN.{length};
-ghost use Rattle.tracker.specs.Places.{channelLimit, placeCount, span, mark};
-ghost use Rattle.tracker.specs.Arrived.{placeFrom};
+ghost use Rattle.seats.specs.Places.{channelLimit, placeCount, span};
+ghost use Rattle.tracker.specs.Places.{mark};
+ghost use Rattle.seats.specs.Seat.{placeFrom};
 ghost use Rattle.tracker.specs.Inside.{Ordered, Found, Finds, Grows};
 use crate::Gap;
 use crate::Held;
@@ -34,21 +35,6 @@ pub(crate) fn mark(ended: bool) -> u8
     ensures { λ r. ⌜ r ≡ mark ended ⌝ }
 {
     ended as u8
-}
-
-// The place of a channel, or the count where it is not there.
-pub(crate) fn find(numbers: &[u16; Tracker::CHANNELS], count: usize, channel: u16) -> usize
-    requires { ⌜ count ≤ channelLimit ⌝ }
-    ensures { λ r. ⌜ r ≡ placeFrom (now (numbers .entry)) channel 0 count ⌝ }
-{
-    let mut i: usize = 0;
-    while i < count {
-        if numbers[i] == channel {
-            return i;
-        }
-        i += 1;
-    }
-    count
 }
 
 // The place, from b on, of the run that holds n, or the count where none does.

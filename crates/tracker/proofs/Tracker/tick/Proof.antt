@@ -18,10 +18,10 @@ returns c =
     let k = c .before .before .before .before .before .before .before .before .before .before .before .before .before .before in
     let s = k .args in
     let t = s .t1 in
-    let i = c .before .before .before .before .seat2 .given .0 .0 in
+    let i = c .before .before .before .before .seat .given .0 .0 in
     let n = c .before .before .natural .result in
     let z : n ≡ natural (s .number) = rw (toZ-ofZ (k .fits .number)) at (c .before .before .natural .ensures) in
-    let a = seat-at t (s .channel) (tick (s .number)) (c .before .before .before .before .before .before .seat .result) (c .before .before .before .before .before .before .seat .ensures) i (c .before .before .before .before .seat2 .given .1) in
+    let a = seat-at t (s .channel) (tick (s .number)) (c .before .before .before .before .before .before .seat-of .result) (c .before .before .before .before .before .before .seat-of .ensures) i (c .before .before .before .before .seat .given .1) in
     rw (c .unchanged3 .ensures .0, c .unchanged3 .ensures .1)
     (sym (a .1 ∙ settled-low t i (channel t i) (tick (s .number)) (below-one (s .number) ∙ lt-ltb (natural (s .number)) 1 (omega arith))))
 
@@ -30,8 +30,8 @@ element-copy-out-highest c =
     let k = c .before .before .before .before .before .before .before .before .before .before .before .before .before in
     let s = k .args in
     let t = s .t1 in
-    let i = c .before .before .before .seat2 .given .0 .0 in
-    let w = seat-row t (s .channel) (c .before .before .before .before .before .seat .result) (c .before .before .before .before .before .seat .ensures) i (c .before .before .before .seat2 .given .1) in
+    let i = c .before .before .before .seat .given .0 .0 in
+    let w = seat-row t (s .channel) (c .before .before .before .before .before .seat-of .result) (c .before .before .before .before .before .seat-of .ensures) i (c .before .before .before .seat .given .1) in
     omega (arith, w .1)
 
 mul-highest : tie.Need-mul-highest
@@ -42,8 +42,8 @@ element-write-self c =
     let k = c .before .before .before .before .before .before .before .before .before .before .before .before .before .before .before in
     let s = k .args in
     let t = s .t1 in
-    let i = c .before .before .before .before .before .seat2 .given .0 .0 in
-    let w = seat-row t (s .channel) (c .before .before .before .before .before .before .before .seat .result) (c .before .before .before .before .before .before .before .seat .ensures) i (c .before .before .before .before .before .seat2 .given .1) in
+    let i = c .before .before .before .before .before .seat .given .0 .0 in
+    let w = seat-row t (s .channel) (c .before .before .before .before .before .before .before .seat-of .result) (c .before .before .before .before .before .before .before .seat-of .ensures) i (c .before .before .before .before .before .seat .given .1) in
     omega (arith, w .1)
 
 mul-self : tie.Need-mul-self
@@ -54,12 +54,12 @@ returns-2 c =
     let k = c .before .before .before .before .before .before .before .before .before .before .before .before .before .before .before in
     let s = k .args in
     let t = s .t1 in
-    let i = c .before .before .before .before .before .seat2 .given .0 .0 in
-    let w = seat-row t (s .channel) (c .before .before .before .before .before .before .before .seat .result) (c .before .before .before .before .before .before .before .seat .ensures) i (c .before .before .before .before .before .seat2 .given .1) in
+    let i = c .before .before .before .before .before .seat .given .0 .0 in
+    let w = seat-row t (s .channel) (c .before .before .before .before .before .before .before .seat-of .result) (c .before .before .before .before .before .before .before .seat-of .ensures) i (c .before .before .before .before .before .seat .given .1) in
     let n = c .before .before .before .natural .result in
     let z : n ≡ natural (s .number) = rw (toZ-ofZ (k .fits .number)) at (c .before .before .before .natural .ensures) in
     let p : 1 ≤ n = omega arith in
-    let d = tick-seat t (s .channel) (c .before .before .before .before .before .before .before .seat .result) (c .before .before .before .before .before .before .before .seat .ensures) i (c .before .before .before .before .before .seat2 .given .1) (s .number) n z p in
+    let d = tick-seat t (s .channel) (c .before .before .before .before .before .before .before .seat-of .result) (c .before .before .before .before .before .before .before .seat-of .ensures) i (c .before .before .before .before .before .seat .given .1) (s .number) n z p in
     sym (d ∙ tick-next t i (w .0) n p (omega arith))
 
 element-copy-out-ended : tie.Need-element-copy-out-ended
@@ -67,8 +67,8 @@ element-copy-out-ended c =
     let k = c .before .before .before .before .before .before .before .before .before .before .before .before .before .before .before .before in
     let s = k .args in
     let t = s .t1 in
-    let i = c .before .before .before .before .before .before .seat2 .given .0 .0 in
-    let w = seat-row t (s .channel) (c .before .before .before .before .before .before .before .before .seat .result) (c .before .before .before .before .before .before .before .before .seat .ensures) i (c .before .before .before .before .before .before .seat2 .given .1) in
+    let i = c .before .before .before .before .before .before .seat .given .0 .0 in
+    let w = seat-row t (s .channel) (c .before .before .before .before .before .before .before .before .seat-of .result) (c .before .before .before .before .before .before .before .before .seat-of .ensures) i (c .before .before .before .before .before .before .seat .given .1) in
     omega (arith, w .1)
 
 raise-requires : tie.Need-raise-requires
@@ -76,20 +76,20 @@ raise-requires c κs =
     let k = c .before .before .before .before .before .before .before .before .before .before .before .before .before .before .before .before .before in
     let s = k .args in
     let t = s .t1 in
-    let i = c .before .before .before .before .before .before .before .seat2 .given .0 .0 in
-    seat-at t (s .channel) (tick (s .number)) (c .before .before .before .before .before .before .before .before .before .seat .result) (c .before .before .before .before .before .before .before .before .before .seat .ensures) i (c .before .before .before .before .before .before .before .seat2 .given .1) .0
+    let i = c .before .before .before .before .before .before .before .seat .given .0 .0 in
+    seat-at t (s .channel) (tick (s .number)) (c .before .before .before .before .before .before .before .before .before .seat-of .result) (c .before .before .before .before .before .before .before .before .before .seat-of .ensures) i (c .before .before .before .before .before .before .before .seat .given .1) .0
 
 returns-3 : tie.Need-returns-3
 returns-3 c =
     let k = c .before .before .before .before .before .before .before .before .before .before .before .before .before .before .before .before .before .before in
     let s = k .args in
     let t = s .t1 in
-    let i = c .before .before .before .before .before .before .before .before .seat2 .given .0 .0 in
-    let w = seat-row t (s .channel) (c .before .before .before .before .before .before .before .before .before .before .seat .result) (c .before .before .before .before .before .before .before .before .before .before .seat .ensures) i (c .before .before .before .before .before .before .before .before .seat2 .given .1) in
+    let i = c .before .before .before .before .before .before .before .before .seat .given .0 .0 in
+    let w = seat-row t (s .channel) (c .before .before .before .before .before .before .before .before .before .before .seat-of .result) (c .before .before .before .before .before .before .before .before .before .before .seat-of .ensures) i (c .before .before .before .before .before .before .before .before .seat .given .1) in
     let n = c .before .before .before .before .before .before .natural .result in
     let z : n ≡ natural (s .number) = rw (toZ-ofZ (k .fits .number)) at (c .before .before .before .before .before .before .natural .ensures) in
     let p : 1 ≤ n = omega arith in
-    let d = tick-seat t (s .channel) (c .before .before .before .before .before .before .before .before .before .before .seat .result) (c .before .before .before .before .before .before .before .before .before .before .seat .ensures) i (c .before .before .before .before .before .before .before .before .seat2 .given .1) (s .number) n z p in
+    let d = tick-seat t (s .channel) (c .before .before .before .before .before .before .before .before .before .before .seat-of .result) (c .before .before .before .before .before .before .before .before .before .before .seat-of .ensures) i (c .before .before .before .before .before .before .before .before .seat .given .1) (s .number) n z p in
     c .raise .ensures ∙ sym (d ∙ tick-ahead t i (w .0) n p (omega arith))
 
 element-copy-out-count : tie.Need-element-copy-out-count
@@ -97,8 +97,8 @@ element-copy-out-count c =
     let k = c .before .before .before .before .before .before .before .before .before .before .before .before .before .before .before .before in
     let s = k .args in
     let t = s .t1 in
-    let i = c .before .before .before .before .before .before .seat2 .given .0 .0 in
-    let w = seat-row t (s .channel) (c .before .before .before .before .before .before .before .before .seat .result) (c .before .before .before .before .before .before .before .before .seat .ensures) i (c .before .before .before .before .before .before .seat2 .given .1) in
+    let i = c .before .before .before .before .before .before .seat .given .0 .0 in
+    let w = seat-row t (s .channel) (c .before .before .before .before .before .before .before .before .seat-of .result) (c .before .before .before .before .before .before .before .before .seat-of .ensures) i (c .before .before .before .before .before .before .seat .given .1) in
     omega (arith, w .1)
 
 mul-count : tie.Need-mul-count
@@ -109,8 +109,8 @@ mul-held c =
     let k = c .before .before .before .before .before .before .before .before .before .before .before .before .before .before .before .before .before .before .before .before in
     let s = k .args in
     let t = s .t1 in
-    let i = c .before .before .before .before .before .before .before .before .before .before .seat2 .given .0 .0 in
-    let w = seat-row t (s .channel) (c .before .before .before .before .before .before .before .before .before .before .before .before .seat .result) (c .before .before .before .before .before .before .before .before .before .before .before .before .seat .ensures) i (c .before .before .before .before .before .before .before .before .before .before .seat2 .given .1) in
+    let i = c .before .before .before .before .before .before .before .before .before .before .seat .given .0 .0 in
+    let w = seat-row t (s .channel) (c .before .before .before .before .before .before .before .before .before .before .before .before .seat-of .result) (c .before .before .before .before .before .before .before .before .before .before .before .before .seat-of .ensures) i (c .before .before .before .before .before .before .before .before .before .before .seat .given .1) in
     omega (arith, w .1)
 
 held-requires : tie.Need-held-requires
@@ -118,8 +118,8 @@ held-requires c κs =
     let k = c .before .before .before .before .before .before .before .before .before .before .before .before .before .before .before .before .before .before .before .before in
     let s = k .args in
     let t = s .t1 in
-    let i = c .before .before .before .before .before .before .before .before .before .before .seat2 .given .0 .0 in
-    let w = seat-row t (s .channel) (c .before .before .before .before .before .before .before .before .before .before .before .before .seat .result) (c .before .before .before .before .before .before .before .before .before .before .before .before .seat .ensures) i (c .before .before .before .before .before .before .before .before .before .before .seat2 .given .1) in
+    let i = c .before .before .before .before .before .before .before .before .before .before .seat .given .0 .0 in
+    let w = seat-row t (s .channel) (c .before .before .before .before .before .before .before .before .before .before .before .before .seat-of .result) (c .before .before .before .before .before .before .before .before .before .before .before .before .seat-of .ensures) i (c .before .before .before .before .before .before .before .before .before .before .seat .given .1) in
     (omega (arith, w .1), w .0 .room, omega (arith, w .0 .high), record { low = 1; high = getD (t .highest) i 0; order = w .0 .order })
 
 element-write-self-2 : tie.Need-element-write-self-2
@@ -127,8 +127,8 @@ element-write-self-2 c =
     let k = c .before .before .before .before .before .before .before .before .before .before .before .before .before .before .before .before .before .before .before .before .before .before .before .before in
     let s = k .args in
     let t = s .t1 in
-    let i = c .before .before .before .before .before .before .before .before .before .before .before .before .before .before .seat2 .given .0 .0 in
-    let w = seat-row t (s .channel) (c .before .before .before .before .before .before .before .before .before .before .before .before .before .before .before .before .seat .result) (c .before .before .before .before .before .before .before .before .before .before .before .before .before .before .before .before .seat .ensures) i (c .before .before .before .before .before .before .before .before .before .before .before .before .before .before .seat2 .given .1) in
+    let i = c .before .before .before .before .before .before .before .before .before .before .before .before .before .before .seat .given .0 .0 in
+    let w = seat-row t (s .channel) (c .before .before .before .before .before .before .before .before .before .before .before .before .before .before .before .before .seat-of .result) (c .before .before .before .before .before .before .before .before .before .before .before .before .before .before .before .before .seat-of .ensures) i (c .before .before .before .before .before .before .before .before .before .before .before .before .before .before .seat .given .1) in
     let n = c .before .before .before .before .before .before .before .before .before .before .before .before .natural .result in
     let p : 1 ≤ n = omega arith in
     omega (arith, behind-end t i n (w .0) p (omega arith) (c .before .before .before .held .result) (c .before .before .before .held .ensures) (c .before .held2 .given .0 .0) (c .before .held2 .given .0 .1 .0) (c .before .held2 .given .0 .1 .1 .0) (c .before .held2 .given .1) .0, w .1)
@@ -147,12 +147,12 @@ returns-4 c =
     let k = c .before .before .before .before .before .before .before .before .before .before .before .before .before .before .before .before .before .before .before .before .before .before .before .before in
     let s = k .args in
     let t = s .t1 in
-    let i = c .before .before .before .before .before .before .before .before .before .before .before .before .before .before .seat2 .given .0 .0 in
-    let w = seat-row t (s .channel) (c .before .before .before .before .before .before .before .before .before .before .before .before .before .before .before .before .seat .result) (c .before .before .before .before .before .before .before .before .before .before .before .before .before .before .before .before .seat .ensures) i (c .before .before .before .before .before .before .before .before .before .before .before .before .before .before .seat2 .given .1) in
+    let i = c .before .before .before .before .before .before .before .before .before .before .before .before .before .before .seat .given .0 .0 in
+    let w = seat-row t (s .channel) (c .before .before .before .before .before .before .before .before .before .before .before .before .before .before .before .before .seat-of .result) (c .before .before .before .before .before .before .before .before .before .before .before .before .before .before .before .before .seat-of .ensures) i (c .before .before .before .before .before .before .before .before .before .before .before .before .before .before .seat .given .1) in
     let n = c .before .before .before .before .before .before .before .before .before .before .before .before .natural .result in
     let z : n ≡ natural (s .number) = rw (toZ-ofZ (k .fits .number)) at (c .before .before .before .before .before .before .before .before .before .before .before .before .natural .ensures) in
     let p : 1 ≤ n = omega arith in
-    let d = tick-seat t (s .channel) (c .before .before .before .before .before .before .before .before .before .before .before .before .before .before .before .before .seat .result) (c .before .before .before .before .before .before .before .before .before .before .before .before .before .before .before .before .seat .ensures) i (c .before .before .before .before .before .before .before .before .before .before .before .before .before .before .seat2 .given .1) (s .number) n z p in
+    let d = tick-seat t (s .channel) (c .before .before .before .before .before .before .before .before .before .before .before .before .before .before .before .before .seat-of .result) (c .before .before .before .before .before .before .before .before .before .before .before .before .before .before .before .before .seat-of .ensures) i (c .before .before .before .before .before .before .before .before .before .before .before .before .before .before .seat .given .1) (s .number) n z p in
     sym (d ∙ behind-end t i n (w .0) p (omega arith) (c .before .before .before .held .result) (c .before .before .before .held .ensures) (c .before .held2 .given .0 .0) (c .before .held2 .given .0 .1 .0) (c .before .held2 .given .0 .1 .1 .0) (c .before .held2 .given .1) .1)
 
 cut-requires : tie.Need-cut-requires
@@ -160,30 +160,30 @@ cut-requires c κs =
     let k = c .before .before .before .before .before .before .before .before .before .before .before .before .before .before .before .before .before .before .before .before .before .before .before in
     let s = k .args in
     let t = s .t1 in
-    let i = c .before .before .before .before .before .before .before .before .before .before .before .before .before .seat2 .given .0 .0 in
-    seat-at t (s .channel) (tick (s .number)) (c .before .before .before .before .before .before .before .before .before .before .before .before .before .before .before .seat .result) (c .before .before .before .before .before .before .before .before .before .before .before .before .before .before .before .seat .ensures) i (c .before .before .before .before .before .before .before .before .before .before .before .before .before .seat2 .given .1) .0
+    let i = c .before .before .before .before .before .before .before .before .before .before .before .before .before .seat .given .0 .0 in
+    seat-at t (s .channel) (tick (s .number)) (c .before .before .before .before .before .before .before .before .before .before .before .before .before .before .before .seat-of .result) (c .before .before .before .before .before .before .before .before .before .before .before .before .before .before .before .seat-of .ensures) i (c .before .before .before .before .before .before .before .before .before .before .before .before .before .seat .given .1) .0
 
 returns-5 : tie.Need-returns-5
 returns-5 c =
     let s = c .before .before .before .before .before .before .before .before .before .before .before .args in
-    rw (c .unchanged .ensures .0, c .unchanged .ensures .1) (sym (seat-10 (s .t1) (s .channel) (tick (s .number)) (c .before .before .before .seat .result) (c .before .before .before .seat .ensures) (c .before .enum-told .given .1)))
+    rw (c .unchanged .ensures .0, c .unchanged .ensures .1) (sym (seat-10 (s .t1) (s .channel) (tick (s .number)) (c .before .before .before .seat-of .result) (c .before .before .before .seat-of .ensures) (c .before .enum-told .given .1)))
 
 returns-6 : tie.Need-returns-6
 returns-6 c =
     let s = c .before .before .before .before .before .before .before .before .before .before .before .args in
-    rw (c .unchanged2 .ensures .0, c .unchanged2 .ensures .1) (sym (seat-7 (s .t1) (s .channel) (tick (s .number)) (c .before .before .before .seat .result) (c .before .before .before .seat .ensures) (c .before .enum-told2 .given .1)))
+    rw (c .unchanged2 .ensures .0, c .unchanged2 .ensures .1) (sym (seat-7 (s .t1) (s .channel) (tick (s .number)) (c .before .before .before .seat-of .result) (c .before .before .before .seat-of .ensures) (c .before .enum-told2 .given .1)))
 
 returns-7 : tie.Need-returns-7
 returns-7 c =
     let k = c .before .before .before .before .before .before .before .before .before .before .before .before .before .before .before .before .before .before .before .before .before .before .before .before in
     let s = k .args in
     let t = s .t1 in
-    let i = c .before .before .before .before .before .before .before .before .before .before .before .before .before .before .seat2 .given .0 .0 in
-    let w = seat-row t (s .channel) (c .before .before .before .before .before .before .before .before .before .before .before .before .before .before .before .before .seat .result) (c .before .before .before .before .before .before .before .before .before .before .before .before .before .before .before .before .seat .ensures) i (c .before .before .before .before .before .before .before .before .before .before .before .before .before .before .seat2 .given .1) in
+    let i = c .before .before .before .before .before .before .before .before .before .before .before .before .before .before .seat .given .0 .0 in
+    let w = seat-row t (s .channel) (c .before .before .before .before .before .before .before .before .before .before .before .before .before .before .before .before .seat-of .result) (c .before .before .before .before .before .before .before .before .before .before .before .before .before .before .before .before .seat-of .ensures) i (c .before .before .before .before .before .before .before .before .before .before .before .before .before .before .seat .given .1) in
     let n = c .before .before .before .before .before .before .before .before .before .before .before .before .natural .result in
     let z : n ≡ natural (s .number) = rw (toZ-ofZ (k .fits .number)) at (c .before .before .before .before .before .before .before .before .before .before .before .before .natural .ensures) in
     let p : 1 ≤ n = omega arith in
-    let d = tick-seat t (s .channel) (c .before .before .before .before .before .before .before .before .before .before .before .before .before .before .before .before .seat .result) (c .before .before .before .before .before .before .before .before .before .before .before .before .before .before .before .before .seat .ensures) i (c .before .before .before .before .before .before .before .before .before .before .before .before .before .before .seat2 .given .1) (s .number) n z p in
+    let d = tick-seat t (s .channel) (c .before .before .before .before .before .before .before .before .before .before .before .before .before .before .before .before .seat-of .result) (c .before .before .before .before .before .before .before .before .before .before .before .before .before .before .before .before .seat-of .ensures) i (c .before .before .before .before .before .before .before .before .before .before .before .before .before .before .seat .given .1) (s .number) n z p in
     rw (c .unchanged4 .ensures .0, c .unchanged4 .ensures .1) (sym (d ∙ behind-no t i n (w .0) p (omega arith) (c .before .before .before .held .result) (c .before .before .before .held .ensures) (c .before .enum-told3 .given .1)))
 
 returns-8 : tie.Need-returns-8
@@ -191,12 +191,12 @@ returns-8 c =
     let k = c .before .before .before .before .before .before .before .before .before .before .before .before .before .before .before .before .before .before .before .before .before .before .before .before in
     let s = k .args in
     let t = s .t1 in
-    let i = c .before .before .before .before .before .before .before .before .before .before .before .before .before .before .seat2 .given .0 .0 in
-    let w = seat-row t (s .channel) (c .before .before .before .before .before .before .before .before .before .before .before .before .before .before .before .before .seat .result) (c .before .before .before .before .before .before .before .before .before .before .before .before .before .before .before .before .seat .ensures) i (c .before .before .before .before .before .before .before .before .before .before .before .before .before .before .seat2 .given .1) in
+    let i = c .before .before .before .before .before .before .before .before .before .before .before .before .before .before .seat .given .0 .0 in
+    let w = seat-row t (s .channel) (c .before .before .before .before .before .before .before .before .before .before .before .before .before .before .before .before .seat-of .result) (c .before .before .before .before .before .before .before .before .before .before .before .before .before .before .before .before .seat-of .ensures) i (c .before .before .before .before .before .before .before .before .before .before .before .before .before .before .seat .given .1) in
     let n = c .before .before .before .before .before .before .before .before .before .before .before .before .natural .result in
     let z : n ≡ natural (s .number) = rw (toZ-ofZ (k .fits .number)) at (c .before .before .before .before .before .before .before .before .before .before .before .before .natural .ensures) in
     let p : 1 ≤ n = omega arith in
-    let d = tick-seat t (s .channel) (c .before .before .before .before .before .before .before .before .before .before .before .before .before .before .before .before .seat .result) (c .before .before .before .before .before .before .before .before .before .before .before .before .before .before .before .before .seat .ensures) i (c .before .before .before .before .before .before .before .before .before .before .before .before .before .before .seat2 .given .1) (s .number) n z p in
+    let d = tick-seat t (s .channel) (c .before .before .before .before .before .before .before .before .before .before .before .before .before .before .before .before .seat-of .result) (c .before .before .before .before .before .before .before .before .before .before .before .before .before .before .before .before .seat-of .ensures) i (c .before .before .before .before .before .before .before .before .before .before .before .before .before .before .seat .given .1) (s .number) n z p in
     c .cut .ensures ∙ sym (d ∙ behind-within t i n (w .0) p (omega arith) (c .before .before .before .held .result) (c .before .before .before .held .ensures) (c .before .enum-told4 .given .1))
 
 pub tick-spec : {M : Type 1} → statement M

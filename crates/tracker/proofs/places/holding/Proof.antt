@@ -2,7 +2,7 @@ use native.Mathlib.Omega.{arith}
 use Prim.Native.Nat.{_≤_, _+_, _-_}
 use mathlib.Core.Path.{_≡_, _∙_}
 use Rattle.gaps.specs.Gaps.{has}
-use Rattle.tracker.specs.Places.{span}
+use Rattle.seats.specs.Places.{span}
 use Rattle.tracker.specs.Inside.{Ordered}
 use Rattle.tracker.proofs.Hold.{hold-pass, hold-none, hold-end, order-more}
 use borrow.Author.Needs.{needs}

@@ -4,7 +4,7 @@ use mathlib.Core.Path.{_≡_}
 use Rattle.gaps.specs.Gaps.{cutAll}
 use Rattle.gaps.specs.Built.{packed}
 use Rattle.gaps.proofs.Pack.{pushAll-packed}
-use Rattle.tracker.specs.Places.{span}
+use Rattle.seats.specs.Places.{span}
 use Rattle.tracker.proofs.Row.{cut-more}
 use borrow.Author.Needs.{needs}
 use Rattle.tracker.proofs.places.without.Statement.{statement}

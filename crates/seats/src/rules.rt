@@ -3,13 +3,10 @@ ghost use mathlib.Core.Path.{_≡_};
 ghost use Prim.Native.Nat.{_+_, _-_, _≤_};
 ghost use Rattle.gaps.specs.Gaps.{canon};
 ghost use Rattle.gaps.specs.Limits.{runLimit, mostNumber};
-ghost use Rattle.tracker.specs.Places.{channelLimit, placeCount, firstNumber, span};
-ghost use Rattle.tracker.specs.Rules.{allZero, soundRow, soundRows, marks, blank, sound};
-ghost use Rattle.tracker.specs.SetUp.{ascends};
-ghost use Rattle.tracker.specs.Inside.{seatOf};
+ghost use Rattle.seats.specs.Places.{channelLimit, placeCount, firstNumber, span};
+ghost use Rattle.seats.specs.Rules.{ascends, allZero, soundRow, soundRows, marks, blank, sound};
+ghost use Rattle.seats.specs.Seat.{placeFrom, seating, paper};
 use crate::Seat;
-use crate::Tracker;
-use crate::places;
 use gaps::Runs;
 
 // The largest number that an arrival can bring.
@@ -23,7 +20,7 @@ fn wide(x: u16) -> u32
 }
 
 // Does each number stand above the one before?
-pub(crate) fn ascending(numbers: &[u16]) -> bool
+pub fn ascending(numbers: &[u16]) -> bool
     ensures { λ r. ⌜ r ≡ ascends 0 (now (numbers .entry)) ⌝ }
 {
     let mut low: u32 = 0;
@@ -41,8 +38,8 @@ pub(crate) fn ascending(numbers: &[u16]) -> bool
 
 // Are the places from one to another zero?
 fn cleared<'a>(
-    first: &'a [u64; Tracker::PLACES],
-    last: &'a [u64; Tracker::PLACES],
+    first: &'a [u64; Seat::PLACES],
+    last: &'a [u64; Seat::PLACES],
     from: usize,
     to: usize,
 ) -> bool
@@ -60,8 +57,8 @@ fn cleared<'a>(
 
 // Are the runs from one place to another in order, none touching the next, from 1 to the highest?
 fn ordered<'a>(
-    first: &'a [u64; Tracker::PLACES],
-    last: &'a [u64; Tracker::PLACES],
+    first: &'a [u64; Seat::PLACES],
+    last: &'a [u64; Seat::PLACES],
     from: usize,
     to: usize,
     highest: u64,
@@ -91,8 +88,8 @@ fn ordered<'a>(
 
 // Do a channel's places, from b on, keep the rules?
 fn row<'a>(
-    first: &'a [u64; Tracker::PLACES],
-    last: &'a [u64; Tracker::PLACES],
+    first: &'a [u64; Seat::PLACES],
+    last: &'a [u64; Seat::PLACES],
     b: usize,
     count: usize,
     highest: u64,
@@ -115,11 +112,11 @@ fn row<'a>(
 // Are the channels in order, each with places that keep the rules?
 fn rows<'a>(
     count: usize,
-    numbers: &'a [u16; Tracker::CHANNELS],
-    highest: &'a [u64; Tracker::CHANNELS],
-    counts: &'a [usize; Tracker::CHANNELS],
-    first: &'a [u64; Tracker::PLACES],
-    last: &'a [u64; Tracker::PLACES],
+    numbers: &'a [u16; Seat::COUNT],
+    highest: &'a [u64; Seat::COUNT],
+    counts: &'a [usize; Seat::COUNT],
+    first: &'a [u64; Seat::PLACES],
+    last: &'a [u64; Seat::PLACES],
 ) -> bool
     requires { ⌜ count ≤ channelLimit ⌝ }
     ensures { λ r. ⌜ r ≡ soundRows (now (numbers .entry)) (now (highest .entry)) (now (counts .entry)) (now (first .entry)) (now (last .entry)) 0 0 count ⌝ }
@@ -142,12 +139,12 @@ fn rows<'a>(
 }
 
 // Is each ended mark set or not?
-fn marked(ended: &[u8; Tracker::CHANNELS]) -> bool
+fn marked(ended: &[u8; Seat::COUNT]) -> bool
     ensures { λ r. ⌜ r ≡ marks (now (ended .entry)) 0 channelLimit ⌝ }
 {
     let mut bits: u8 = 0;
     let mut i: usize = 0;
-    while i < Tracker::CHANNELS {
+    while i < Seat::COUNT {
         bits = bits | ended[i];
         i += 1;
     }
@@ -157,16 +154,16 @@ fn marked(ended: &[u8; Tracker::CHANNELS]) -> bool
 // Do the places from one on hold no channel?
 fn unused<'a>(
     from: usize,
-    numbers: &'a [u16; Tracker::CHANNELS],
-    highest: &'a [u64; Tracker::CHANNELS],
-    ended: &'a [u8; Tracker::CHANNELS],
-    counts: &'a [usize; Tracker::CHANNELS],
+    numbers: &'a [u16; Seat::COUNT],
+    highest: &'a [u64; Seat::COUNT],
+    ended: &'a [u8; Seat::COUNT],
+    counts: &'a [usize; Seat::COUNT],
 ) -> bool
     requires { ⌜ from ≤ channelLimit ⌝ }
     ensures { λ r. ⌜ r ≡ blank (now (numbers .entry)) (now (highest .entry)) (now (ended .entry)) (now (counts .entry)) from (channelLimit - from) ⌝ }
 {
     let mut i = from;
-    while i < Tracker::CHANNELS {
+    while i < Seat::COUNT {
         if numbers[i] != 0 {
             return false;
         }
@@ -187,46 +184,61 @@ fn unused<'a>(
 // Does a tracker of these fields keep the rules?
 fn sound<'a>(
     count: usize,
-    numbers: &'a [u16; Tracker::CHANNELS],
-    highest: &'a [u64; Tracker::CHANNELS],
-    ended: &'a [u8; Tracker::CHANNELS],
-    counts: &'a [usize; Tracker::CHANNELS],
-    first: &'a [u64; Tracker::PLACES],
-    last: &'a [u64; Tracker::PLACES],
+    numbers: &'a [u16; Seat::COUNT],
+    highest: &'a [u64; Seat::COUNT],
+    ended: &'a [u8; Seat::COUNT],
+    counts: &'a [usize; Seat::COUNT],
+    first: &'a [u64; Seat::PLACES],
+    last: &'a [u64; Seat::PLACES],
 ) -> bool
     ensures { λ r. ⌜ r ≡ sound count (now (numbers .entry)) (now (highest .entry)) (now (ended .entry)) (now (counts .entry)) (now (first .entry)) (now (last .entry)) ⌝ }
 {
     if count == 0 {
         return false;
     }
-    if Tracker::CHANNELS < count {
+    if Seat::COUNT < count {
         return false;
     }
     if rows(count, numbers, highest, counts, first, last) {
         if marked(ended) {
             if unused(count, numbers, highest, ended, counts) {
-                return cleared(first, last, count * Runs::LIMIT, Tracker::PLACES);
+                return cleared(first, last, count * Runs::LIMIT, Seat::PLACES);
             }
         }
     }
     false
 }
 
+// The place of a channel, or the count where it is not there.
+fn find(numbers: &[u16; Seat::COUNT], count: usize, channel: u16) -> usize
+    requires { ⌜ count ≤ channelLimit ⌝ }
+    ensures { λ r. ⌜ r ≡ placeFrom (now (numbers .entry)) channel 0 count ⌝ }
+{
+    let mut i: usize = 0;
+    while i < count {
+        if numbers[i] == channel {
+            return i;
+        }
+        i += 1;
+    }
+    count
+}
+
 // Where a channel stands in a tracker of these fields.
-pub(crate) fn seat<'a>(
+pub fn seat_of<'a>(
     channel: u16,
     count: usize,
-    numbers: &'a [u16; Tracker::CHANNELS],
-    highest: &'a [u64; Tracker::CHANNELS],
-    ended: &'a [u8; Tracker::CHANNELS],
-    counts: &'a [usize; Tracker::CHANNELS],
-    first: &'a [u64; Tracker::PLACES],
-    last: &'a [u64; Tracker::PLACES],
+    numbers: &'a [u16; Seat::COUNT],
+    highest: &'a [u64; Seat::COUNT],
+    ended: &'a [u8; Seat::COUNT],
+    counts: &'a [usize; Seat::COUNT],
+    first: &'a [u64; Seat::PLACES],
+    last: &'a [u64; Seat::PLACES],
 ) -> Seat
-    ensures { λ r. ⌜ r ≡ seatOf channel count (now (numbers .entry)) (now (highest .entry)) (now (ended .entry)) (now (counts .entry)) (now (first .entry)) (now (last .entry)) ⌝ }
+    ensures { λ r. ⌜ paper r ≡ seating channel count (now (numbers .entry)) (now (highest .entry)) (now (ended .entry)) (now (counts .entry)) (now (first .entry)) (now (last .entry)) ⌝ }
 {
     if sound(count, numbers, highest, ended, counts, first, last) {
-        let at = places::find(numbers, count, channel);
+        let at = find(numbers, count, channel);
         if at < count {
             return Seat::At(at);
         }

@@ -1,0 +1,4 @@
+pub mod Ascends
+pub mod Heads
+pub mod Span
+pub mod Unique
