@@ -54,47 +54,57 @@ pub record Kept {A S : Type 0} (rules : List Rule) (answer : Answer A) (stood gi
 
 -- ---- the reader
 
+-- `frame::read`
 abbrev pub FrameReader : Type 1
 FrameReader = (s : List ℕ) (r : Framed) → frame.paper r ≡ frame.framing frame.headerWidth frame.bodyLimit s → Judged (frameRules s) (frame.paper r)
 
+-- `record::read_frame`
 abbrev pub FrameRecordReader : Type 1
 FrameRecordReader = (s : List ℕ) (r : FrameReading) → paperFrame r ≡ frameReading s → Judged (readerRules s) (paperFrame r .answer)
 
+-- `record::read`
 abbrev pub RecordReader : Type 1
 RecordReader = (type : ℕ) (b : List ℕ) (r : Reading) → paper r ≡ reading type b → Judged (bodyRules type b) (paper r .answer)
 
+-- `record::judge`
 abbrev pub Judge : Type 1
 Judge = (type : ℕ) (b : List ℕ) (r : Verdict) → layout.paper r ≡ judging type b → Judged (bodyRules type b) (layout.paper r)
 
+-- `record::group_of`
 abbrev pub GroupReader : Type 1
 GroupReader =
     (type : ℕ) (b : List ℕ) (i : ℕ) (r : GroupReading) → paperGroup r ≡ groupAsked type b i →
     ByPosition (bodyRules type b) (groupCount type b ≤ i) (paperGroup r .answer)
 
+-- `entries::entry_of`
 abbrev pub EntryReader : Type 1
 EntryReader =
     (type : ℕ) (b : List ℕ) (i : ℕ) (r : AskedEntry) → paperAskedEntry r ≡ entryAsked type b i →
     ByPosition (bodyRules type b) (entryCount type b ≤ i) (paperAskedEntry r)
 
+-- `entries::quantity_of`: there is no such entry, or it shows no such quantity
 abbrev pub QuantityReader : Type 1
 QuantityReader =
     (type : ℕ) (b : List ℕ) (i j : ℕ) (r : AskedQuantity) → paperQuantity r ≡ quantityAsked type b i j →
     ByPosition (bodyRules type b) ((entryCount type b ≤ i) ⊎ (shownCount type b i ≤ j)) (paperQuantity r)
 
+-- `Cursor::step`: 4 and 5 for the entry at the cursor
 abbrev pub Stepper : Type 1
 Stepper =
     (type : ℕ) (b : List ℕ) (c : Cursor) (r : Step) → paperStep r ≡ stepOf (named type) b (paperCursor c) →
     ByPosition (stepRules type b (paperCursor c)) (entriesLeft type (paperCursor c) ≡ 0) (paperStep r)
 
--- ---- the writer: the lent output
+-- ---- the writer
 
+-- `writer::write`, and the lent output
 abbrev pub Writer : Type 1
 Writer =
     (r : Record) (ts gs out after : List ℕ) (a : Written) → writer.paper a ≡ answering (paperRecord r) ts gs out →
     after ≡ leaving (paperRecord r) ts gs out → Kept (writerRules (paperRecord r) ts gs (length out)) (writer.paper a) out after
 
--- ---- the tracker: the gap record; "set-up refused gives the all-zero tracker"
+-- ---- the tracker
 
+-- `Tracker::set_up`: "set-up refused gives the all-zero tracker"
 abbrev pub SetUp : Type 1
 SetUp =
     (numbers : List ℕ) (r : Started) → set-up.paper r ≡ set-up.setUp numbers →
@@ -104,13 +114,13 @@ SetUp =
 abbrev pub ZeroBreaks : Type 0
 ZeroBreaks = Keeps (set-up.blankOf []) → ⊥
 
--- a tick, or a channel heartbeat
+-- `Tracker::tick` and `Tracker::heartbeat`, and the gap record
 abbrev pub Arrival : Type 1
 Arrival =
     (t : Tracker) (k : ℕ) (e : Event) (r : Reply) → arrival.paper r ≡ arrival.arrived t (arrival.on k e) →
     Kept (arrivalRules t k e) (arrival.saidOf (r .verdict)) t (r .next)
 
--- the request: the lent output, also where nothing is missing
+-- `Tracker::request`, and the lent output: as it stood also where nothing is missing
 pub record Asking (t : Tracker) (k : ℕ) (answer : Answer request.Said) (out after : List ℕ) : Type 1 where
   pub kept : Kept (requestRules t k (length out)) answer out after
   pub none : (x : request.Said) → answer ≡ accepted x → (x ≡ request.nothing) ↔ (recordOf t k .runs ≡ [])
