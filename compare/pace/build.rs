@@ -1,9 +1,8 @@
-// Links the archive of the face, in the folder that FACE names.
+// Links the archive of the C interface, in the folder that ARCHIVE names.
 fn main() {
-    println!("cargo:rerun-if-env-changed=FACE");
-    if let Ok(folder) = std::env::var("FACE") {
-        println!("cargo:rustc-link-search=native={folder}");
-        println!("cargo:rustc-link-arg-bin=pace={folder}/libface.a");
-        println!("cargo:rerun-if-changed={folder}/libface.a");
+    println!("cargo:rerun-if-env-changed=ARCHIVE");
+    if let Ok(folder) = std::env::var("ARCHIVE") {
+        println!("cargo:rustc-link-arg-bin=pace={folder}/libboard.a");
+        println!("cargo:rerun-if-changed={folder}/libboard.a");
     }
 }

@@ -1,0 +1,101 @@
+//! The entries of a snapshot, one step after the other: without their prices, and with them.
+use crate::board::{self, Cursor, Entry, StepAnswer, SNAPSHOT};
+use crate::inputs::snapshot_body;
+use crate::race;
+use crate::ranges::{entry_in, half, int, word, PRICE};
+use std::hint::black_box;
+
+/// What an entry says, by number, with the numbers that go with it.
+fn told(e: &[u8]) -> (Entry, Option<i64>) {
+    let (p, size) = (int(e, 2), int(e, 10));
+    let bare = |says, size| Entry { says, characters: half(e, 0), size, ..Entry::default() };
+    let level = |says| Entry { level: half(e, 18), order_count: int(e, 20), shown: word(e, 28), ..bare(says, size) };
+    match &e[0..2] {
+        b"0 " | b"1 " if p == 0 => (level(2), None),
+        b"0 " | b"1 " => (level(1), Some(p)),
+        b"2 " | b"4 " | b"7 " | b"8 " | b"9 " | b"x1" | b"x2" | b"x5" | b"x6" | b"x7" | b"x8" | b"x9" | b"xj" | b"xk" => (bare(3, 0), Some(p)),
+        b"xe" if p == PRICE => (bare(6, 0), None),
+        b"xf" if p == -PRICE => (bare(6, 0), None),
+        b"xe" | b"xf" => (bare(3, 0), Some(p)),
+        b"xg" => (bare(4, size), None),
+        b"x3" | b"x4" => (bare(5, size), Some(p)),
+        _ => (bare(7, 0), None),
+    }
+}
+
+/// The entry at a cursor of a snapshot with its price, and the cursor behind it.
+fn step_priced(at: Cursor, kind: u32, s: &[u8]) -> (StepAnswer, Option<i64>) {
+    let none = |answer| (StepAnswer { answer, next: at, ..StepAnswer::default() }, None);
+    if kind != SNAPSHOT || at.left == 0 {
+        return none(101);
+    }
+    if s.len() < at.place || s.len() - at.place < 32 {
+        return none(4);
+    }
+    let e = &s[at.place..at.place + 32];
+    let shown = word(e, 28) as usize;
+    if s.len() - at.place - 32 < 8 * shown {
+        return none(4);
+    }
+    if !entry_in(s, at.place) {
+        return none(5);
+    }
+    let (entry, price) = told(e);
+    (StepAnswer { answer: 0, entry, next: Cursor { place: at.place + 32 + 8 * shown, left: at.left - 1 } }, price)
+}
+
+#[inline(never)]
+fn step(at: Cursor, kind: u32, s: &[u8]) -> StepAnswer {
+    step_priced(at, kind, s).0
+}
+
+#[inline(never)]
+fn step_with_price(at: Cursor, kind: u32, s: &[u8]) -> (StepAnswer, Option<i64>) {
+    step_priced(at, kind, s)
+}
+
+/// As a C host has it: the price by a second call where the entry says one.
+fn step_then_price(at: Cursor, kind: u32, s: &[u8]) -> (StepAnswer, Option<i64>) {
+    let a = board::step(at, kind, s);
+    let mut price = 0;
+    let priced = matches!(a.entry.says, 1 | 3 | 5) && board::step_price(at, kind, s, &mut price) == 0;
+    (a, priced.then_some(price))
+}
+
+/// All steps from the first entry on, each answer seen.
+fn steps(s: &[u8], step: impl Fn(Cursor, u32, &[u8]) -> StepAnswer) -> u32 {
+    let mut at = black_box(Cursor { place: 69, left: 28 });
+    let mut taken = 0;
+    while at.left > 0 {
+        let a = step(at, black_box(SNAPSHOT), s);
+        at = black_box(&a).next;
+        taken += 1;
+    }
+    taken
+}
+
+/// All steps with their prices; the sum of these.
+fn prices(s: &[u8], step: impl Fn(Cursor, u32, &[u8]) -> (StepAnswer, Option<i64>)) -> i64 {
+    let mut at = black_box(Cursor { place: 69, left: 28 });
+    let mut sum = 0;
+    while at.left > 0 {
+        let a = step(at, black_box(SNAPSHOT), s);
+        at = black_box(&a).0.next;
+        sum += a.1.unwrap_or(0);
+    }
+    sum
+}
+
+pub fn run() {
+    let s = snapshot_body();
+    let mut at = board::cursor(SNAPSHOT, &s);
+    assert_eq!(at, Cursor { place: 69, left: 28 });
+    while at.left > 0 {
+        assert_eq!(step_then_price(at, SNAPSHOT, &s), step_with_price(at, SNAPSHOT, &s));
+        assert_eq!(board::step(at, SNAPSHOT, &s[..at.place + 31]), step(at, SNAPSHOT, &s[..at.place + 31]));
+        at = board::step(at, SNAPSHOT, &s).next;
+    }
+    assert_eq!(board::step(at, SNAPSHOT, &s), step(at, SNAPSHOT, &s));
+    race("28 entries stepped through", 10_000, || steps(black_box(&s), board::step), || steps(black_box(&s), step));
+    race("28 entries stepped, with prices", 10_000, || prices(black_box(&s), step_then_price), || prices(black_box(&s), step_with_price));
+}

@@ -1,0 +1,126 @@
+//! Rust's tracker: an array of structs changed through `&mut`, with rule 10 judged on every call.
+#[derive(Clone, Copy, PartialEq, Eq, Default)]
+pub struct Run {
+    first: u64,
+    last: u64,
+}
+
+#[derive(Clone, Copy, Default)]
+pub struct Channel {
+    number: u16,
+    highest: u64,
+    ended: bool,
+    count: usize,
+    runs: [Run; 32],
+}
+
+#[derive(Clone, Copy, Default)]
+pub struct Tracker {
+    count: usize,
+    channels: [Channel; 8],
+}
+
+impl Channel {
+    /// Rule 10 of one channel.
+    fn sound(&self) -> bool {
+        if self.count > 32 || self.highest > i64::MAX as u64 {
+            return false;
+        }
+        let mut low = 1;
+        for r in &self.runs[..self.count] {
+            if r.first < low || r.last < r.first || r.last > self.highest {
+                return false;
+            }
+            low = r.last + 2;
+        }
+        self.runs[self.count..].iter().all(|r| *r == Run::default())
+    }
+
+    fn blank(&self) -> bool {
+        self.number == 0 && self.highest == 0 && !self.ended && self.count == 0
+    }
+
+    fn above(&mut self, n: u64) -> u32 {
+        let h = self.highest;
+        if h + 1 < n {
+            if self.count > 0 && self.runs[self.count - 1].last == h {
+                self.runs[self.count - 1].last = n - 1;
+            } else if self.count == 32 {
+                return 9;
+            } else {
+                self.runs[self.count] = Run { first: h + 1, last: n - 1 };
+                self.count += 1;
+            }
+        }
+        self.highest = n;
+        0
+    }
+
+    fn leaves(&mut self, j: usize, n: u64) -> u32 {
+        let r = self.runs[j];
+        if r.first == r.last {
+            self.runs.copy_within(j + 1..self.count, j);
+            self.count -= 1;
+            self.runs[self.count] = Run::default();
+        } else if n == r.first {
+            self.runs[j].first = n + 1;
+        } else if n == r.last {
+            self.runs[j].last = n - 1;
+        } else if self.count == 32 {
+            return 9;
+        } else {
+            self.runs.copy_within(j..self.count, j + 1);
+            self.count += 1;
+            self.runs[j].last = n - 1;
+            self.runs[j + 1].first = n + 1;
+        }
+        103
+    }
+
+    fn tick(&mut self, n: u64) -> u32 {
+        if self.highest < n {
+            return self.above(n);
+        }
+        match self.runs[..self.count].iter().position(|r| r.first <= n && n <= r.last) {
+            Some(j) => self.leaves(j, n),
+            None => 104,
+        }
+    }
+}
+
+impl Tracker {
+    pub fn set_up() -> Tracker {
+        let mut t = Tracker { count: 8, ..Tracker::default() };
+        for (i, c) in t.channels.iter_mut().enumerate() {
+            c.number = 2011 + i as u16;
+        }
+        t
+    }
+
+    fn sound(&self) -> bool {
+        if self.count == 0 || self.count > 8 {
+            return false;
+        }
+        let mut low = 0;
+        for c in &self.channels[..self.count] {
+            if u32::from(c.number) < low || !c.sound() {
+                return false;
+            }
+            low = u32::from(c.number) + 1;
+        }
+        self.channels[self.count..].iter().all(|c| c.blank() && c.sound())
+    }
+
+    #[inline(never)]
+    pub fn tick(&mut self, channel: u16, n: i64) -> u32 {
+        if !self.sound() {
+            return 10;
+        }
+        let count = self.count;
+        match self.channels[..count].iter_mut().find(|c| c.number == channel) {
+            None => 7,
+            Some(_) if n < 1 => 8,
+            Some(c) => c.tick(n as u64),
+        }
+    }
+}
