@@ -9,7 +9,6 @@ use crate::answers::PLAIN;
 use record::ChannelHeartbeat;
 use record::Index;
 use record::Order;
-use record::Record;
 use record::Resend;
 use record::SecurityStatus;
 use record::Snapshot;
@@ -38,11 +37,10 @@ fn refusal_number(x: Refusal) -> u32
     }
 }
 
-fn write(record: Record, texts: &[u8], groups: &[u8], out: &mut [u8]) -> WriteAnswer
-    ensures { λ r. ⌜ r ≡ writeAnswer (answering (paperRecord «record») (now (texts .entry)) (now (groups .entry)) (now (out .entry))) ⌝ }
-    ensures { λ r. ⌜ now (out .exit) ≡ leaving (paperRecord «record») (now (texts .entry)) (now (groups .entry)) (now (out .entry)) ⌝ }
+fn answer_of(written: Written) -> WriteAnswer
+    ensures { λ r. ⌜ r ≡ writeAnswer (writer_paper.paper written) ⌝ }
 {
-    match writer::write(record, texts, groups, out) {
+    match written {
         Written::Whole(n) => WriteAnswer {
             answer: PLAIN,
             written: n,
@@ -64,7 +62,7 @@ pub extern "C" fn orizhgum_write_order(
     ensures { λ r. ⌜ r ≡ writeAnswer (answering (paperRecord (is.Order numbers)) (now (texts .entry)) (now (groups .entry)) (now (out .entry))) ⌝ }
     ensures { λ r. ⌜ now (out .exit) ≡ leaving (paperRecord (is.Order numbers)) (now (texts .entry)) (now (groups .entry)) (now (out .entry)) ⌝ }
 {
-    write(Record::Order(numbers), texts, groups, out)
+    answer_of(writer::write_order(numbers, texts, groups, out))
 }
 
 #[no_mangle]
@@ -77,7 +75,7 @@ pub extern "C" fn orizhgum_write_trade(
     ensures { λ r. ⌜ r ≡ writeAnswer (answering (paperRecord (is.Trade numbers)) (now (texts .entry)) (now (groups .entry)) (now (out .entry))) ⌝ }
     ensures { λ r. ⌜ now (out .exit) ≡ leaving (paperRecord (is.Trade numbers)) (now (texts .entry)) (now (groups .entry)) (now (out .entry)) ⌝ }
 {
-    write(Record::Trade(numbers), texts, groups, out)
+    answer_of(writer::write_trade(numbers, texts, groups, out))
 }
 
 #[no_mangle]
@@ -90,7 +88,7 @@ pub extern "C" fn orizhgum_write_channel_heartbeat(
     ensures { λ r. ⌜ r ≡ writeAnswer (answering (paperRecord (is.ChannelHeartbeat numbers)) (now (texts .entry)) (now (groups .entry)) (now (out .entry))) ⌝ }
     ensures { λ r. ⌜ now (out .exit) ≡ leaving (paperRecord (is.ChannelHeartbeat numbers)) (now (texts .entry)) (now (groups .entry)) (now (out .entry)) ⌝ }
 {
-    write(Record::ChannelHeartbeat(numbers), texts, groups, out)
+    answer_of(writer::write_channel_heartbeat(numbers, texts, groups, out))
 }
 
 #[no_mangle]
@@ -103,7 +101,7 @@ pub extern "C" fn orizhgum_write_resend(
     ensures { λ r. ⌜ r ≡ writeAnswer (answering (paperRecord (is.Resend numbers)) (now (texts .entry)) (now (groups .entry)) (now (out .entry))) ⌝ }
     ensures { λ r. ⌜ now (out .exit) ≡ leaving (paperRecord (is.Resend numbers)) (now (texts .entry)) (now (groups .entry)) (now (out .entry)) ⌝ }
 {
-    write(Record::Resend(numbers), texts, groups, out)
+    answer_of(writer::write_resend(numbers, texts, groups, out))
 }
 
 #[no_mangle]
@@ -116,7 +114,7 @@ pub extern "C" fn orizhgum_write_snapshot(
     ensures { λ r. ⌜ r ≡ writeAnswer (answering (paperRecord (is.Snapshot numbers)) (now (texts .entry)) (now (groups .entry)) (now (out .entry))) ⌝ }
     ensures { λ r. ⌜ now (out .exit) ≡ leaving (paperRecord (is.Snapshot numbers)) (now (texts .entry)) (now (groups .entry)) (now (out .entry)) ⌝ }
 {
-    write(Record::Snapshot(numbers), texts, groups, out)
+    answer_of(writer::write_snapshot(numbers, texts, groups, out))
 }
 
 #[no_mangle]
@@ -129,7 +127,7 @@ pub extern "C" fn orizhgum_write_index(
     ensures { λ r. ⌜ r ≡ writeAnswer (answering (paperRecord (is.Index numbers)) (now (texts .entry)) (now (groups .entry)) (now (out .entry))) ⌝ }
     ensures { λ r. ⌜ now (out .exit) ≡ leaving (paperRecord (is.Index numbers)) (now (texts .entry)) (now (groups .entry)) (now (out .entry)) ⌝ }
 {
-    write(Record::Index(numbers), texts, groups, out)
+    answer_of(writer::write_index(numbers, texts, groups, out))
 }
 
 #[no_mangle]
@@ -142,7 +140,7 @@ pub extern "C" fn orizhgum_write_volume_index(
     ensures { λ r. ⌜ r ≡ writeAnswer (answering (paperRecord (is.VolumeIndex numbers)) (now (texts .entry)) (now (groups .entry)) (now (out .entry))) ⌝ }
     ensures { λ r. ⌜ now (out .exit) ≡ leaving (paperRecord (is.VolumeIndex numbers)) (now (texts .entry)) (now (groups .entry)) (now (out .entry)) ⌝ }
 {
-    write(Record::VolumeIndex(numbers), texts, groups, out)
+    answer_of(writer::write_volume_index(numbers, texts, groups, out))
 }
 
 #[no_mangle]
@@ -155,7 +153,7 @@ pub extern "C" fn orizhgum_write_statistics(
     ensures { λ r. ⌜ r ≡ writeAnswer (answering (paperRecord (is.Statistics numbers)) (now (texts .entry)) (now (groups .entry)) (now (out .entry))) ⌝ }
     ensures { λ r. ⌜ now (out .exit) ≡ leaving (paperRecord (is.Statistics numbers)) (now (texts .entry)) (now (groups .entry)) (now (out .entry)) ⌝ }
 {
-    write(Record::Statistics(numbers), texts, groups, out)
+    answer_of(writer::write_statistics(numbers, texts, groups, out))
 }
 
 #[no_mangle]
@@ -168,7 +166,7 @@ pub extern "C" fn orizhgum_write_security_status(
     ensures { λ r. ⌜ r ≡ writeAnswer (answering (paperRecord (is.SecurityStatus numbers)) (now (texts .entry)) (now (groups .entry)) (now (out .entry))) ⌝ }
     ensures { λ r. ⌜ now (out .exit) ≡ leaving (paperRecord (is.SecurityStatus numbers)) (now (texts .entry)) (now (groups .entry)) (now (out .entry)) ⌝ }
 {
-    write(Record::SecurityStatus(numbers), texts, groups, out)
+    answer_of(writer::write_security_status(numbers, texts, groups, out))
 }
 
 #[no_mangle]
@@ -180,5 +178,5 @@ pub extern "C" fn orizhgum_write_heartbeat(
     ensures { λ r. ⌜ r ≡ writeAnswer (answering (paperRecord is.Heartbeat) (now (texts .entry)) (now (groups .entry)) (now (out .entry))) ⌝ }
     ensures { λ r. ⌜ now (out .exit) ≡ leaving (paperRecord is.Heartbeat) (now (texts .entry)) (now (groups .entry)) (now (out .entry)) ⌝ }
 {
-    write(Record::Heartbeat, texts, groups, out)
+    answer_of(writer::write_heartbeat(texts, groups, out))
 }

@@ -5,15 +5,15 @@ use mathlib.Core.Path.{_≡_, refl, ap, sym, _∙_}
 use mathlib.Core.Bool.{Bool, true, false, not, _&&_}
 use mathlib.Core.List.{List, [], _++_}
 use native.Mathlib.Omega.{arith}
-use borrow.Author.Tests.{lt-ltb, le-ltb, eq-eqb, ne-eqb, ltb-false, eqb-true, not-true, not-false}
-use lib.Dec.{ltb, eqb, lit≤}
+use borrow.Author.Tests.{lt-ltb, le-ltb, eq-eqb, ne-eqb, ltb-false, eqb-true, eqb-false}
+use lib.Dec.{ltb, eqb}
 use lib.IntN.{ℤ}
 use lib.ListN.{length}
 use Rattle.wire.specs.Answer.{Answer, accepted, refused, guard, andThen}
 use Rattle.wire.specs.Bytes.{splice}
 use Rattle.wire.specs.Refusal.{tooLong, notItsLayout, outOfRange, outputShort}
 use Rattle.frame.specs.Framing.{bodyLimit}
-use Rattle.layout.specs.Layout.{Message, heartbeat, channelHeartbeat, resend, statistics, securityStatus, snapshot, index, volumeIndex, order, trade, fields, Group, size}
+use Rattle.layout.specs.Layout.{Message, Group, size}
 use Rattle.layout.specs.Paper.{paper}
 use Rattle.layout.specs.declared.group.Verdict.{Verdict}
 use Rattle.layout.specs.Group.{place, fit, groupRanges, verdict, also, judgedFrom, placeFrom, noGroup}
@@ -22,32 +22,10 @@ use Rattle.record.specs.Record.{Reading, known, unknown}
 use Rattle.record.specs.Paper.{paperRecord}
 use Rattle.record.specs.declared.Record.{Record}
 use Rattle.writer.specs.Body.{encode, body, bodyLength, textSize, even, exact, allIn, numbersIn, stated}
-use Rattle.writer.specs.Write.{frameLength, frameOf, fitting, judgedAs, judging, leaving}
-use Rattle.writer.specs.Parts.{layoutIn, numbersOf, typeIn, isKnown, groupIn, countOf, shaped, inRange, judgedGroups}
-use Rattle.writer.specs.declared.shape.Shape.{Shape}
-
--- what holds of the record of an arm holds of the record
-pub moved : {A : Type 0} (f : Record → A) {a : A} {r v : Record} → r ≡ v → a ≡ f v → a ≡ f r
-moved f e h = h ∙ ap f (sym e)
-
--- ---- the shape of a record
-
-abbrev pub shape-of-record : Record → Shape
-shape-of-record r = shaped (paperRecord r)
-
-pub shape-by :
-    {s : Shape} {k n t : ℕ} {r v : Record} → (s .listed ≡ true) × ((s .kind ≡ k) × ((s .size ≡ n) × (s .texts ≡ t))) → r ≡ v →
-    _≡_ {A = Shape} (record { listed = true; kind = k; size = n; texts = t }) (shaped (paperRecord v)) → s ≡ shaped (paperRecord r)
-shape-by e a f =
-    (λ i. record { listed = e .0 i; kind = e .1 .0 i; size = e .1 .1 .0 i; texts = e .1 .1 .1 i })
-    ∙ f ∙ ap (λ (r : Record). shaped (paperRecord r)) (sym a)
+use Rattle.writer.specs.Write.{frameLength, frameOf, fitting, judgedAs, judging, answering, leaving}
+use Rattle.writer.specs.Parts.{layoutIn, numbersOf, typeIn, isKnown, groupIn, countOf, inRange, judgedGroups, judgedBy}
 
 -- ---- groups
-
-pub judged-arm :
-    (gs : List ℕ) {a : Answer Unit} {r v : Record} → r ≡ v → a ≡ judgedGroups (groupIn (paperRecord v)) gs (countOf (paperRecord v)) →
-    a ≡ judgedGroups (groupIn (paperRecord r)) gs (countOf (paperRecord r))
-judged-arm gs e h = moved (λ (r : Record). judgedGroups (groupIn (paperRecord r)) gs (countOf (paperRecord r))) e h
 
 -- a type without groups
 pub none-even : (gs : List ℕ) → length gs ≡ 0 → accepted tt ≡ judgedGroups noGroup gs 0
@@ -128,14 +106,33 @@ module _ (ts gs : List ℕ) (room : ℕ) where
       (groupRanges (groupIn (known m zs)) gs 0 (stated m zs)) (fitting (bodyLength m gs) room)))
   its-texts (unknown t) e h = let z : _≡_ {A = ℕ} 0 1 = cc in absurd (omega arith)
 
-  -- the same by the verdict that the code found
-  pub found :
-      (x : Reading) → isKnown x ≡ true → length ts ≡ textSize (layoutIn x) → {v : Answer Unit} →
-      v ≡ also (numbersIn (layoutIn x) (numbersOf x)) (judgedGroups (groupIn x) gs (countOf x)) → {a : Answer ℕ} →
-      a ≡ andThen v (λ (u : Unit). fitting (size (layoutIn x) + length gs) room) → a ≡ judging x ts gs room
-  found x k h e f =
-      f ∙ ap (λ (v : Answer Unit). andThen v (λ (u : Unit). fitting (size (layoutIn x) + length gs) room)) e
-      ∙ its-texts x k h
+  by-texts :
+      (x : Reading) (t : Bool) → isKnown x ≡ true → eqb (length ts) (textSize (layoutIn x)) ≡ t →
+      judgedBy (size (layoutIn x)) (textSize (layoutIn x)) (length ts) (also (numbersIn (layoutIn x) (numbersOf x)) (judgedGroups (groupIn x) gs (countOf x))) (length gs) room
+      ≡ judging x ts gs room
+  unfolding judgedBy guard
+  by-texts x true k e = rw e (its-texts x k (eqb-true _ _ e))
+  by-texts x false k e = rw e (other-texts x k (eqb-false _ _ e))
+
+  -- by the verdict that the code found on the groups and the fixed fields of a listed record
+  pub by-verdict :
+      (r : Record) → isKnown (paperRecord r) ≡ true → {b : Bool} {v w : Answer Unit} → v ≡ also b w → b ≡ inRange r →
+      w ≡ judgedGroups (groupIn (paperRecord r)) gs (countOf (paperRecord r)) →
+      judgedBy (size (layoutIn (paperRecord r))) (textSize (layoutIn (paperRecord r))) (length ts) v (length gs) room ≡ judging (paperRecord r) ts gs room
+  by-verdict r k e f g =
+      let x = paperRecord r in
+      ap (λ (v : Answer Unit). judgedBy (size (layoutIn x)) (textSize (layoutIn x)) (length ts) v (length gs) room) (e ∙ (λ i. also (f i) (g i)))
+      ∙ by-texts x (eqb (length ts) (textSize (layoutIn x))) k refl
+
+-- what the code tests: the texts' length, then its verdict
+module _ (n wanted texts groups room : ℕ) where
+  pub other-count : (v : Answer Unit) → (texts ≡ wanted → ⊥) → refused notItsLayout [] ≡ judgedBy n wanted texts v groups room
+  unfolding judgedBy guard
+  other-count v h = rw (ne-eqb texts wanted h)
+
+  pub same-count : texts ≡ wanted → {v u : Verdict} → v ≡ u → andThen (paper u) (λ (x : Unit). fitting (n + groups) room) ≡ judgedBy n wanted texts (paper v) groups room
+  unfolding judgedBy guard
+  same-count h e = rw (eq-eqb texts wanted h, e)
 
 -- ---- what "written" says
 
@@ -193,46 +190,9 @@ pub kept-output : (x : Reading) (ts gs out : List ℕ) (n : ℕ) (vs : List ℕ)
 unfolding leaving
 kept-output x ts gs out n vs e = rw e
 
--- ---- what the code tests
-
-small-fields : (m : Message) → size (fields m) ≤ 69
-unfolding size
-small-fields heartbeat = lit≤ tt
-small-fields channelHeartbeat = lit≤ tt
-small-fields resend = lit≤ tt
-small-fields statistics = lit≤ tt
-small-fields securityStatus = lit≤ tt
-small-fields snapshot = lit≤ tt
-small-fields index = lit≤ tt
-small-fields volumeIndex = lit≤ tt
-small-fields order = lit≤ tt
-small-fields trade = lit≤ tt
-
-small-layout : (x : Reading) → size (layoutIn x) ≤ 69
-unfolding size
-small-layout (known m zs) = small-fields m
-small-layout (unknown t) = lit≤ tt
-
-module _ (r : Record) (s : Shape) (e : s ≡ shaped (paperRecord r)) where
-  pub small : s .size ≤ 69
-  small = rw e (small-layout (paperRecord r))
-
-  listed : not (s .listed) ≡ false → isKnown (paperRecord r) ≡ true
-  listed h = sym (ap (λ (t : Shape). t .listed) e) ∙ not-false (s .listed) h
-
-  module _ (ts gs : List ℕ) (room : ℕ) where
-    pub refuse-type : not (s .listed) ≡ true → refused outOfRange [] ≡ judging (paperRecord r) ts gs room
-    refuse-type h = not-listed ts gs room (paperRecord r) (sym (ap (λ (t : Shape). t .listed) e) ∙ not-true (s .listed) h)
-
-    pub refuse-texts : not (s .listed) ≡ false → (length ts ≡ s .texts → ⊥) → refused notItsLayout [] ≡ judging (paperRecord r) ts gs room
-    refuse-texts h t = other-texts ts gs room (paperRecord r) (listed h) (λ f. t (f ∙ sym (ap (λ (t : Shape). t .texts) e)))
-
-    -- by the verdict on the groups and the fixed fields
-    pub by-verdict :
-        not (s .listed) ≡ false → length ts ≡ s .texts → (w : Verdict) {b : Bool} {v u : Verdict} → paper v ≡ also b (paper w) → b ≡ inRange r →
-        paper w ≡ judgedGroups (groupIn (paperRecord r)) gs (countOf (paperRecord r)) → v ≡ u →
-        andThen (paper u) (λ (x : Unit). fitting (s .size + length gs) room) ≡ judging (paperRecord r) ts gs room
-    by-verdict h t w {b} {v} {u} p q g f =
-        found ts gs room (paperRecord r) (listed h) (t ∙ ap (λ (t : Shape). t .texts) e) {v = paper u}
-        (sym (ap paper f) ∙ p ∙ (λ i. also (q i) (g i)))
-        (ap (λ (t : Shape). andThen (paper u) (λ (x : Unit). fitting (t .size + length gs) room)) e)
+-- what is answered and left of the record of an arm is answered and left of the record
+pub by-arm :
+    (ts gs out : List ℕ) {a : Answer ℕ} {z : List ℕ} {r v : Record} → r ≡ v →
+    (a ≡ answering (paperRecord v) ts gs out) × (z ≡ leaving (paperRecord v) ts gs out) →
+    (a ≡ answering (paperRecord r) ts gs out) × (z ≡ leaving (paperRecord r) ts gs out)
+by-arm ts gs out e h = rw e h

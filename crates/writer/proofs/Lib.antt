@@ -7,4 +7,5 @@ pub mod Round
 pub mod Shift
 pub mod Stores
 pub mod Tests
+pub mod Typed
 pub mod Unique

@@ -1,19 +1,21 @@
 -- What a record says of its type, its fields and its groups, in one place for all types. No public promise cites this.
 -- Assumes nothing.
-use Prim.Native.Nat.{ℕ}
-use mathlib.Core.Bool.{Bool, true, false}
+use Prim.Native.Nat.{ℕ, _+_}
+use mathlib.Core.Bool.{Bool, true, false, not}
 use mathlib.Core.List.{List, [], _∷_}
+use lib.Dec.{eqb}
 use lib.IntN.{ℤ, pos}
-use Rattle.wire.specs.Answer.{Answer}
+use Rattle.wire.specs.Answer.{Answer, refused, guard, andThen}
+use Rattle.wire.specs.Refusal.{notItsLayout}
 use Rattle.layout.specs.Kind.{Kind}
-use Rattle.layout.specs.Layout.{snapshot, Group, commonPart, fields, typeNumber, size}
+use Rattle.layout.specs.Layout.{snapshot, Group, commonPart, fields, typeNumber}
 use Rattle.layout.specs.Group.{noGroup, group, groupRanges, verdict}
 use Rattle.record.specs.Record.{Reading, known, unknown}
 use Rattle.record.specs.Paper.{paperRecord, commonValues}
 use Rattle.record.specs.declared.Record.{Record}
 use Rattle.record.specs.declared.common.Common.{Common}
-use Rattle.writer.specs.Body.{encode, textSize, numbersIn, stated, even}
-use Rattle.writer.specs.declared.shape.Shape.{Shape}
+use Rattle.writer.specs.Body.{encode, numbersIn, stated, even}
+use Rattle.writer.specs.Write.{fitting}
 
 abbrev pub layoutIn : Reading → List Kind
 layoutIn (known m zs) = fields m
@@ -39,11 +41,6 @@ abbrev pub countOf : Reading → ℕ
 countOf (known m zs) = stated m zs
 countOf (unknown type) = 0
 
--- the numbers of a record by which it is judged and stored
-abbrev pub shaped : Reading → Shape
-shaped r =
-    record { listed = isKnown r; kind = typeIn r; size = size (layoutIn r); texts = textSize (layoutIn r) }
-
 -- the fields of a record, from its texts
 abbrev pub fieldsOf : Record → List ℕ → List ℕ
 fieldsOf r ts = encode (layoutIn (paperRecord r)) (numbersOf (paperRecord r)) ts
@@ -54,6 +51,11 @@ inRange r = numbersIn (layoutIn (paperRecord r)) (numbersOf (paperRecord r))
 -- 4 where groups don't come out even with the count, else 5 where one is out of range
 unfoldable pub judgedGroups : Group → List ℕ → ℕ → Answer Unit
 judgedGroups g gs n = verdict (even g gs n) (groupRanges g gs 0 n)
+
+-- how texts of some length are judged where the layout's take wanted bytes, then a verdict on fields and groups, then a body of size bytes and the groups for an output of room bytes
+unfoldable pub judgedBy : ℕ → ℕ → ℕ → Answer Unit → ℕ → ℕ → Answer ℕ
+judgedBy size wanted texts v groups room =
+    guard (not (eqb texts wanted)) (refused notItsLayout []) (andThen v (λ (u : Unit). fitting (size + groups) room))
 
 -- ---- the common part, and one number of four bytes behind it
 

@@ -1,27 +1,39 @@
 // Frames from records, texts and groups.
 ghost use mathlib.Core.Path.{_≡_};
 ghost use Prim.Native.Nat.{_+_, _≤_};
+ghost use Rattle.layout.specs.Paper as layout_paper;
 ghost use Rattle.record.specs.Paper.{paperRecord};
 ghost use Rattle.writer.specs.Paper.{paper};
-ghost use Rattle.writer.specs.Write.{fitting, judging, answering, leaving};
+ghost use Rattle.writer.specs.Parts.{judgedBy};
+ghost use Rattle.writer.specs.Write.{fitting, answering, leaving};
 
 mod channel_heartbeat;
 mod common;
-mod fields;
 mod groups;
+mod heartbeat;
+mod index;
 mod order;
 mod resend;
 mod security_status;
-mod shape;
+mod snapshot;
 mod statistics;
 mod store;
 mod trade;
+mod volume_index;
 
+pub use channel_heartbeat::write_channel_heartbeat;
 use frame::Frame;
+pub use heartbeat::write_heartbeat;
+pub use index::write_index;
 use layout::Verdict;
+pub use order::write_order;
 use record::Record;
-use shape::shape_of;
-use store::store;
+pub use resend::write_resend;
+pub use security_status::write_security_status;
+pub use snapshot::write_snapshot;
+pub use statistics::write_statistics;
+pub use trade::write_trade;
+pub use volume_index::write_volume_index;
 
 // Why nothing is written: texts or groups that aren't exactly the stated fields; a field out of range, or a type that is not listed; a body above the limit; an output too short.
 pub enum Refusal {
@@ -52,19 +64,23 @@ fn fitted(size: usize, groups: usize, room: usize) -> Written
     Written::Whole(total)
 }
 
-// How a record, texts and groups are judged for an output of room bytes: 5 for the type, then 4, 5, 2, 6.
-fn judge(record: Record, texts: &[u8], groups: &[u8], room: usize) -> Written
-    ensures { λ r. ⌜ paper r ≡ judging (paperRecord «record») (now (texts .entry)) (now (groups .entry)) room ⌝ }
+// How texts of some length, and a verdict on fields and groups, are judged for an output of room bytes: 4 for the texts, the verdict, 2, 6.
+fn judge(
+    size: usize,
+    wanted: usize,
+    texts: usize,
+    verdict: Verdict,
+    groups: usize,
+    room: usize,
+) -> Written
+    requires { ⌜ size ≤ 69 ⌝ }
+    ensures { λ r. ⌜ paper r ≡ judgedBy size wanted texts (layout_paper.paper verdict) groups room ⌝ }
 {
-    let s = shape_of(record);
-    if !s.listed {
-        return Written::Refused(Refusal::OutOfRange);
-    }
-    if texts.len() != s.texts {
+    if texts != wanted {
         return Written::Refused(Refusal::NotItsLayout);
     }
-    match groups::judge(record, groups).also(fields::in_range(record)) {
-        Verdict::Accepted => fitted(s.size, groups.len(), room),
+    match verdict {
+        Verdict::Accepted => fitted(size, groups, room),
         Verdict::Refused(x) => match x {
             layout::Refusal::NotItsLayout => Written::Refused(Refusal::NotItsLayout),
             layout::Refusal::OutOfRange => Written::Refused(Refusal::OutOfRange),
@@ -77,12 +93,17 @@ pub fn write(record: Record, texts: &[u8], groups: &[u8], out: &mut [u8]) -> Wri
     ensures { λ r. ⌜ paper r ≡ answering (paperRecord «record») (now (texts .entry)) (now (groups .entry)) (now (out .entry)) ⌝ }
     ensures { λ r. ⌜ now (out .exit) ≡ leaving (paperRecord «record») (now (texts .entry)) (now (groups .entry)) (now (out .entry)) ⌝ }
 {
-    match judge(record, texts, groups, out.len()) {
-        Written::Whole(n) => {
-            let s = shape_of(record);
-            store(record, s.kind, s.size, texts, groups, out);
-            Written::Whole(n)
-        }
-        Written::Refused(x) => Written::Refused(x),
+    match record {
+        Record::Heartbeat => write_heartbeat(texts, groups, out),
+        Record::ChannelHeartbeat(r) => write_channel_heartbeat(r, texts, groups, out),
+        Record::Resend(r) => write_resend(r, texts, groups, out),
+        Record::Statistics(r) => write_statistics(r, texts, groups, out),
+        Record::SecurityStatus(r) => write_security_status(r, texts, groups, out),
+        Record::Snapshot(r) => write_snapshot(r, texts, groups, out),
+        Record::Index(r) => write_index(r, texts, groups, out),
+        Record::VolumeIndex(r) => write_volume_index(r, texts, groups, out),
+        Record::Order(r) => write_order(r, texts, groups, out),
+        Record::Trade(r) => write_trade(r, texts, groups, out),
+        Record::Unknown(_) => Written::Refused(Refusal::OutOfRange),
     }
 }

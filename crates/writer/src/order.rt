@@ -1,8 +1,15 @@
 // 300192, order; its texts are stream, security and source.
 ghost use mathlib.Core.Path.{_≡_};
 ghost use lib.ListN.{length};
+ghost use Rattle.record.specs.Paper.{paperRecord};
 ghost use Rattle.record.specs.declared.Record.the-variants as variant;
+ghost use Rattle.writer.specs.Paper.{paper};
 ghost use Rattle.writer.specs.Parts.{fieldsOf, inRange};
+ghost use Rattle.writer.specs.Write.{answering, leaving};
+use crate::Written;
+use crate::groups::none;
+use crate::judge;
+use crate::store::seal;
 use layout::number;
 use layout::order_type;
 use layout::price;
@@ -10,10 +17,11 @@ use layout::quantity;
 use layout::side;
 use layout::time;
 use record::Order;
+use record::Record;
 use wire::unsigned;
 
 // Whether its numbers are in range.
-pub(crate) fn in_range(r: Order) -> bool
+fn in_range(r: Order) -> bool
     ensures { λ a. ⌜ a ≡ inRange (variant.Order r) ⌝ }
 {
     number(unsigned(r.number))
@@ -23,7 +31,7 @@ pub(crate) fn in_range(r: Order) -> bool
 }
 
 // Its fields, one behind the other.
-pub(crate) fn put(r: Order, texts: &[u8], out: &mut [u8])
+fn put(r: Order, texts: &[u8], out: &mut [u8])
     requires { ⌜ (length (now texts) ≡ 15) × (length (now out) ≡ 51) ⌝ }
     ensures { λ _. ⌜ now (out .exit) ≡ fieldsOf (variant.Order r) (now (texts .entry)) ⌝ }
 {
@@ -37,4 +45,20 @@ pub(crate) fn put(r: Order, texts: &[u8], out: &mut [u8])
     wire::put1(out, 41, r.side);
     wire::put_i64(out, 42, r.time);
     wire::put1(out, 50, r.order_type);
+}
+
+// Writes the frame of an order, as `write` does.
+pub fn write_order(r: Order, texts: &[u8], groups: &[u8], out: &mut [u8]) -> Written
+    ensures { λ w. ⌜ paper w ≡ answering (paperRecord (variant.Order r)) (now (texts .entry)) (now (groups .entry)) (now (out .entry)) ⌝ }
+    ensures { λ w. ⌜ now (out .exit) ≡ leaving (paperRecord (variant.Order r)) (now (texts .entry)) (now (groups .entry)) (now (out .entry)) ⌝ }
+{
+    let verdict = none(groups).also(in_range(r));
+    match judge(51, 15, texts.len(), verdict, groups.len(), out.len()) {
+        Written::Whole(n) => {
+            put(r, texts, &mut out[8..59]);
+            seal(Record::ORDER, 51, groups, out);
+            Written::Whole(n)
+        }
+        Written::Refused(x) => Written::Refused(x),
+    }
 }

@@ -1,47 +1,74 @@
 use borrow.Author.Needs.{needs}
 use denote.Ref.{now}
-use lib.ListN.{length}
-use mathlib.Core.Path.{_≡_, ap, sym, _∙_}
-use native.Mathlib.Omega.{arith}
-use Rattle.layout.specs.Layout.{size}
-use Rattle.record.specs.Paper.{paperRecord}
-use Rattle.writer.specs.Paper.{paper}
-use Rattle.writer.specs.Parts.{layoutIn}
-use Rattle.writer.specs.Write.{answering}
-use Rattle.writer.specs.declared.shape.Shape.{Shape}
-use Rattle.writer.proofs.Judging.{written-of, wrote, kept-output}
+use mathlib.Core.Path.{refl}
+use Rattle.writer.specs.Write.{answering, leaving}
+use Rattle.writer.proofs.Judging.{by-arm}
 use Rattle.writer.proofs.write.Statement.{statement}
 use Rattle.writer.proofs.write.Tie as tie
 
-store-requires : tie.Need-store-requires
-store-requires c κs =
-    let j = c .before .before .before .before .before .judge in
-    let a = c .before .before .before .before .before .before .before .before .before .args in
-    let x = paperRecord (a .«record») in
-    let e = c .before .shape-of .ensures in
-    let w = written-of x (now (a .texts)) (now (a .groups)) (length (now (a .out))) (c .before .before .before .n .given .0 .0) (sym (j .ensures) ∙ ap paper (c .before .before .before .n .given .1)) in
-    let k : c .before .shape-of .result .size ≡ size (layoutIn x) = ap (λ (s : Shape). s .size) e in
-    (k, (w .texts, (rw k (w .within), rw k (omega (arith, w .there)))))
-
 returns : tie.Need-returns
-unfolding answering
 returns c =
-    let j = c .before .before .before .before .before .before .before .before .judge in
-    let a = c .before .before .before .before .before .before .before .before .before .before .before .before .args in
-    let x = paperRecord (a .«record») in
-    let n = c .before .before .before .before .before .before .n .given in
-    let e = sym (ap paper (n .1)) ∙ j .ensures in
-    (e, c .before .before .store .ensures ∙ wrote x (now (a .texts)) (now (a .groups)) (now (a .out)) (n .0 .0) _ (sym e) (ap (λ (s : Shape). s .kind) (c .before .before .before .before .shape-of .ensures)))
+    let a = c .before .before .before .before .before .before .before .before .before .args in
+    by-arm (now (a .texts)) (now (a .groups)) (now (a .out)) (c .before .before .before .before .enum-told .given .1) (c .before .before .write-heartbeat .ensures)
 
 returns-2 : tie.Need-returns-2
-unfolding answering
 returns-2 c =
-    let a = c .before .before .before .before .before .before .before .args in
-    let x = paperRecord (a .«record») in
-    let e = sym (ap paper (c .before .x .given .1)) ∙ c .before .before .before .judge .ensures in
-    (e, kept-output x (now (a .texts)) (now (a .groups)) (now (a .out)) _ _ (sym e))
+    let a = c .before .before .before .before .before .before .before .before .before .before .args in
+    by-arm (now (a .texts)) (now (a .groups)) (now (a .out)) (c .before .before .before .before .before .«record» .given .1) (c .before .before .write-channel-heartbeat .ensures)
+
+returns-3 : tie.Need-returns-3
+returns-3 c =
+    let a = c .before .before .before .before .before .before .before .before .before .before .args in
+    by-arm (now (a .texts)) (now (a .groups)) (now (a .out)) (c .before .before .before .before .before .record2 .given .1) (c .before .before .write-resend .ensures)
+
+returns-4 : tie.Need-returns-4
+returns-4 c =
+    let a = c .before .before .before .before .before .before .before .before .before .before .args in
+    by-arm (now (a .texts)) (now (a .groups)) (now (a .out)) (c .before .before .before .before .before .record3 .given .1) (c .before .before .write-statistics .ensures)
+
+returns-5 : tie.Need-returns-5
+returns-5 c =
+    let a = c .before .before .before .before .before .before .before .before .before .before .args in
+    by-arm (now (a .texts)) (now (a .groups)) (now (a .out)) (c .before .before .before .before .before .record4 .given .1) (c .before .before .write-security-status .ensures)
+
+returns-6 : tie.Need-returns-6
+returns-6 c =
+    let a = c .before .before .before .before .before .before .before .before .before .before .args in
+    by-arm (now (a .texts)) (now (a .groups)) (now (a .out)) (c .before .before .before .before .before .record5 .given .1) (c .before .before .write-snapshot .ensures)
+
+returns-7 : tie.Need-returns-7
+returns-7 c =
+    let a = c .before .before .before .before .before .before .before .before .before .before .args in
+    by-arm (now (a .texts)) (now (a .groups)) (now (a .out)) (c .before .before .before .before .before .record6 .given .1) (c .before .before .write-index .ensures)
+
+returns-8 : tie.Need-returns-8
+returns-8 c =
+    let a = c .before .before .before .before .before .before .before .before .before .before .args in
+    by-arm (now (a .texts)) (now (a .groups)) (now (a .out)) (c .before .before .before .before .before .record7 .given .1) (c .before .before .write-volume-index .ensures)
+
+returns-9 : tie.Need-returns-9
+returns-9 c =
+    let a = c .before .before .before .before .before .before .before .before .before .before .args in
+    by-arm (now (a .texts)) (now (a .groups)) (now (a .out)) (c .before .before .before .before .before .record8 .given .1) (c .before .before .write-order .ensures)
+
+returns-10 : tie.Need-returns-10
+returns-10 c =
+    let a = c .before .before .before .before .before .before .before .before .before .before .args in
+    by-arm (now (a .texts)) (now (a .groups)) (now (a .out)) (c .before .before .before .before .before .record9 .given .1) (c .before .before .write-trade .ensures)
+
+returns-11 : tie.Need-returns-11
+unfolding answering leaving
+returns-11 c =
+    let a = c .before .before .before .before .before .args in
+    by-arm (now (a .texts)) (now (a .groups)) (now (a .out)) (c .enum-told2 .given .1) (refl, refl)
 
 pub write-spec : {M : Type 1} → statement M
 write-spec =
-    tie.close (tie.spec (λ c κs. tt) (λ c. search needs) (λ c κs. tt) store-requires
-    (λ c. search needs) (λ c. search needs) returns returns-2)
+    tie.close (tie.spec (λ c. search needs) (λ c κs. tt) (λ c. search needs) (λ c κs. tt)
+    (λ c. search needs) (λ c κs. tt) (λ c. search needs) (λ c κs. tt) (λ c. search needs)
+    (λ c κs. tt) (λ c. search needs) (λ c κs. tt) (λ c. search needs) (λ c κs. tt)
+    (λ c. search needs) (λ c κs. tt) (λ c. search needs) (λ c κs. tt) (λ c. search needs)
+    (λ c κs. tt) (λ c. search needs) (λ c. search needs) returns (λ c. search needs) returns-2
+    (λ c. search needs) returns-3 (λ c. search needs) returns-4 (λ c. search needs) returns-5
+    (λ c. search needs) returns-6 (λ c. search needs) returns-7 (λ c. search needs) returns-8
+    (λ c. search needs) returns-9 (λ c. search needs) returns-10 returns-11)

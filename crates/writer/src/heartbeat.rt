@@ -1,0 +1,25 @@
+// 3, heartbeat; it has neither fields nor texts.
+ghost use mathlib.Core.Path.{_≡_};
+ghost use Rattle.record.specs.Paper.{paperRecord};
+ghost use Rattle.record.specs.declared.Record.the-variants as variant;
+ghost use Rattle.writer.specs.Paper.{paper};
+ghost use Rattle.writer.specs.Write.{answering, leaving};
+use crate::Written;
+use crate::groups::none;
+use crate::judge;
+use crate::store::seal;
+use record::Record;
+
+// Writes the frame of a heartbeat, as `write` does.
+pub fn write_heartbeat(texts: &[u8], groups: &[u8], out: &mut [u8]) -> Written
+    ensures { λ w. ⌜ paper w ≡ answering (paperRecord variant.Heartbeat) (now (texts .entry)) (now (groups .entry)) (now (out .entry)) ⌝ }
+    ensures { λ w. ⌜ now (out .exit) ≡ leaving (paperRecord variant.Heartbeat) (now (texts .entry)) (now (groups .entry)) (now (out .entry)) ⌝ }
+{
+    match judge(0, 0, texts.len(), none(groups), groups.len(), out.len()) {
+        Written::Whole(n) => {
+            seal(Record::HEARTBEAT, 0, groups, out);
+            Written::Whole(n)
+        }
+        Written::Refused(x) => Written::Refused(x),
+    }
+}
