@@ -7,7 +7,7 @@ use mathlib.Core.List.{List, [], _∷_}
 use native.Mathlib.Nat.{mul-suc}
 use native.Mathlib.Omega.{arith}
 use borrow.Author.Tests.{le-leb, lt-leb, leb-true, leb-false}
-use lib.Dec.{leb}
+use lib.Dec.{leb, eqb}
 use lib.ListN.{length, take, drop}
 use Rattle.wire.specs.Answer.{Answer, accepted, refused, guard}
 use Rattle.wire.specs.Bytes.{beAt, part}
@@ -150,6 +150,26 @@ module _ (g : Group) (s : List ℕ) where
   place-flat h at (suc i) =
       let e : next g s at ≡ at + size (g .fields) = rw h (omega arith) in
       rw (e, mul-suc (size (g .fields)) i, place-flat h (at + size (g .fields)) i) (omega arith)
+
+-- where a walk over k groups stops, and where it ends
+module _ (g : Group) (s : List ℕ) (at k : ℕ) where
+  pub stops : {b : Bool} {e : ℕ} → (b ≡ false) × (e ≡ at) → fit g s at k ≡ false → (b ≡ fit g s at k) × (e ≡ placeFrom g s at k)
+  unfolding placeFrom
+  stops h f = rw f (h .0, h .1)
+
+  pub ends : {e : ℕ} → fit g s at k ≡ true → place g s at k ≡ e → (true ≡ fit g s at k) × (e ≡ placeFrom g s at k)
+  unfolding placeFrom
+  ends f h = rw f (refl, sym h)
+
+-- ---- all of k groups there, and nothing behind them
+
+pub all-of : (g : Group) (s : List ℕ) (k : ℕ) {b : Bool} {e : ℕ} → b ≡ fit g s 0 k → e ≡ placeFrom g s 0 k → b && eqb e (length s) ≡ fit g s 0 k && eqb (place g s 0 k) (length s)
+unfolding placeFrom
+all-of g s k {b} {e} f h = rw (f, h) (by (fit g s 0 k) refl)
+  where
+    by : (t : Bool) → fit g s 0 k ≡ t → fit g s 0 k && eqb (placeFrom g s 0 k) (length s) ≡ fit g s 0 k && eqb (place g s 0 k) (length s)
+    by true q = rw q
+    by false q = rw q
 
 -- ---- a group in the part that holds its fields
 

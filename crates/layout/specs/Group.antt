@@ -4,7 +4,7 @@
 use Prim.Native.Nat.{ℕ, zero, suc, _+_, _-_, _*_}
 use mathlib.Core.Bool.{Bool, true, false, cond, not, _&&_}
 use mathlib.Core.List.{List, []}
-use lib.Dec.{leb}
+use lib.Dec.{leb, eqb}
 use lib.ListN.{length}
 use Rattle.wire.specs.Answer.{Answer, accepted, refused, guard}
 use Rattle.wire.specs.Bytes.{beAt}
@@ -55,6 +55,10 @@ verdict there inRange =
 -- k groups, judged from a place on
 unfoldable pub judgedFrom : Group → List ℕ → ℕ → ℕ → Answer Unit
 judgedFrom g s at k = verdict (fit g s at k) (groupRanges g s at k)
+
+-- bytes that are to be k groups and nothing else
+unfoldable pub judgedAll : Group → List ℕ → ℕ → Answer Unit
+judgedAll g s k = verdict (fit g s 0 k && eqb (place g s 0 k) (length s)) (groupRanges g s 0 k)
 
 -- a verdict on groups, and the fields in front of them: 5 where one of these is out of range
 abbrev pub also : Bool → Answer Unit → Answer Unit

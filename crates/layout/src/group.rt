@@ -1,11 +1,11 @@
 // Groups behind a count: whether bytes have them, whether they are in range, and where each stands.
 ghost use mathlib.Core.Path.{_≡_};
-ghost use mathlib.Core.Bool.{true};
+ghost use mathlib.Core.Bool.{true, false};
 ghost use Prim.Native.Nat.{_+_, _*_, _<_, _≤_};
 ghost use lib.ListN.{length};
 ghost use Rattle.layout.specs.Layout.{size, ranges};
 ghost use Rattle.layout.specs.Group as of;
-ghost use Rattle.layout.specs.Group.{fit, quantities, groupRanges, judgedFrom, placeFrom};
+ghost use Rattle.layout.specs.Group.{fit, quantities, groupRanges, judgedFrom, judgedAll, placeFrom};
 ghost use Rattle.layout.specs.Paper.{meant, paper};
 use crate::range::entry_price;
 use crate::range::natural;
@@ -61,28 +61,31 @@ fn width(g: Groups) -> usize
     }
 }
 
-// How many quantities a group shows, by its fields.
+// How many quantities a group shows, by the bytes that begin with its fields.
 fn shown(g: Groups, e: &[u8]) -> usize
+    requires { ⌜ size (meant g .fields) ≤ length (now e) ⌝ }
     ensures { λ r. ⌜ (r ≡ of.shown (meant g) (now (e .entry)) 0) × (r < 4294967296) ⌝ }
 {
     match g {
         Groups::Streams => 0,
         Groups::Switches => 0,
         Groups::IndexEntries => 0,
-        Groups::SnapshotEntries => wire::be4(e, 28) as usize,
+        Groups::SnapshotEntries => wire::be4(&e[0..32], 28) as usize,
     }
 }
 
-// Whether the fields of a group are in range.
+// Whether the fields of a group, with which some bytes begin, are in range.
 fn fields_in(g: Groups, e: &[u8]) -> bool
+    requires { ⌜ size (meant g .fields) ≤ length (now e) ⌝ }
     ensures { λ r. ⌜ r ≡ ranges (meant g .fields) (now (e .entry)) 0 ⌝ }
 {
     match g {
         Groups::Streams => true,
-        Groups::Switches => yes_no(wire::be2(e, 2)),
-        Groups::IndexEntries => entry_price(wire::be8(e, 2)),
+        Groups::Switches => yes_no(wire::be2(&e[0..4], 2)),
+        Groups::IndexEntries => entry_price(wire::be8(&e[0..10], 2)),
         Groups::SnapshotEntries => {
-            entry_price(wire::be8(e, 2)) & (quantity(wire::be8(e, 10)) & natural(wire::be8(e, 20)))
+            let f = &e[0..32];
+            entry_price(wire::be8(f, 2)) & (quantity(wire::be8(f, 10)) & natural(wire::be8(f, 20)))
         }
     }
 }
@@ -107,9 +110,23 @@ fn quantities_in(n: usize, s: &[u8], at: usize) -> bool
     true
 }
 
-// Whether the bytes have k groups from a place on.
-fn room(g: Groups, s: &[u8], at: usize, k: u32) -> bool
-    ensures { λ r. ⌜ r ≡ fit (meant g) (now (s .entry)) at k ⌝ }
+// Whether the bytes have k groups from a place on, and where these end; that place itself where they lack some.
+struct Span {
+    fits: bool,
+    end: usize,
+}
+
+fn short(at: usize) -> Span
+    ensures { λ r. ⌜ (r .fits ≡ false) × (r .end ≡ at) ⌝ }
+{
+    Span {
+        fits: false,
+        end: at,
+    }
+}
+
+fn walk(g: Groups, s: &[u8], at: usize, k: u32) -> Span
+    ensures { λ r. ⌜ (r .fits ≡ fit (meant g) (now (s .entry)) at k) × (r .end ≡ placeFrom (meant g) (now (s .entry)) at k) ⌝ }
 {
     let n = s.len();
     let w = width(g);
@@ -117,21 +134,21 @@ fn room(g: Groups, s: &[u8], at: usize, k: u32) -> bool
     let mut left = k;
     while 0 < left {
         if n < p {
-            return false;
+            return short(at);
         }
         if n - p < w {
-            return false;
+            return short(at);
         }
         let q = p + w;
         let e = &s[p..q];
         let m = shown(g, e);
         if n - q < 8 * m {
-            return false;
+            return short(at);
         }
         p = q + 8 * m;
         left -= 1;
     }
-    true
+    Span { fits: true, end: p }
 }
 
 // Whether k groups that are there are in range.
@@ -156,29 +173,12 @@ fn groups_in(g: Groups, s: &[u8], at: usize, k: u32) -> bool
     true
 }
 
-// Where i groups that are there end.
-fn behind(g: Groups, s: &[u8], at: usize, i: u32) -> usize
-    requires { ⌜ fit (meant g) (now s) at i ≡ true ⌝ }
-    ensures { λ r. ⌜ r ≡ of.place (meant g) (now (s .entry)) at i ⌝ }
+// The verdict on k groups that are all there, or not.
+fn judged(g: Groups, s: &[u8], at: usize, k: u32, there: bool) -> Verdict
+    requires { ⌜ (there ≡ true → fit (meant g) (now s) at k ≡ true) ⌝ }
+    ensures { λ r. ⌜ paper r ≡ of.verdict there (groupRanges (meant g) (now (s .entry)) at k) ⌝ }
 {
-    let w = width(g);
-    let mut p = at;
-    let mut left = i;
-    while 0 < left {
-        let q = p + w;
-        let e = &s[p..q];
-        let m = shown(g, e);
-        p = q + 8 * m;
-        left -= 1;
-    }
-    p
-}
-
-// Judges k groups from a place on: 4 where the bytes lack some, else 5 where a field or a shown quantity is out of range.
-pub fn judge(g: Groups, s: &[u8], at: usize, k: u32) -> Verdict
-    ensures { λ r. ⌜ paper r ≡ judgedFrom (meant g) (now (s .entry)) at k ⌝ }
-{
-    if room(g, s, at, k) {
+    if there {
         if groups_in(g, s, at, k) {
             Verdict::Accepted
         } else {
@@ -189,13 +189,26 @@ pub fn judge(g: Groups, s: &[u8], at: usize, k: u32) -> Verdict
     }
 }
 
+// Judges k groups from a place on: 4 where the bytes lack some, else 5 where a field or a shown quantity is out of range.
+pub fn judge(g: Groups, s: &[u8], at: usize, k: u32) -> Verdict
+    ensures { λ r. ⌜ paper r ≡ judgedFrom (meant g) (now (s .entry)) at k ⌝ }
+{
+    let w = walk(g, s, at, k);
+    judged(g, s, at, k, w.fits)
+}
+
+// Judges bytes that are to be k groups and nothing else.
+pub fn judge_all(g: Groups, s: &[u8], k: u32) -> Verdict
+    ensures { λ r. ⌜ paper r ≡ judgedAll (meant g) (now (s .entry)) k ⌝ }
+{
+    let w = walk(g, s, 0, k);
+    judged(g, s, 0, k, w.fits & (w.end == s.len()))
+}
+
 // Where group i stands, counted from a place on; that place itself where the bytes lack one before it.
 pub fn place(g: Groups, s: &[u8], at: usize, i: u32) -> usize
     ensures { λ r. ⌜ r ≡ placeFrom (meant g) (now (s .entry)) at i ⌝ }
 {
-    if room(g, s, at, i) {
-        behind(g, s, at, i)
-    } else {
-        at
-    }
+    let w = walk(g, s, at, i);
+    w.end
 }

@@ -6,6 +6,7 @@ pub use group::Groups;
 pub use group::Refusal;
 pub use group::Verdict;
 pub use group::judge;
+pub use group::judge_all;
 pub use group::place;
 pub use range::amount;
 pub use range::entry_price;

@@ -13,46 +13,28 @@ use Rattle.wire.specs.Answer.{Answer, accepted, refused, guard, andThen}
 use Rattle.wire.specs.Bytes.{splice}
 use Rattle.wire.specs.Refusal.{tooLong, notItsLayout, outOfRange, outputShort}
 use Rattle.frame.specs.Framing.{bodyLimit}
-use Rattle.layout.specs.Layout.{Message, Group, size}
+use Rattle.layout.specs.Layout.{Message, size}
 use Rattle.layout.specs.Paper.{paper}
 use Rattle.layout.specs.declared.group.Verdict.{Verdict}
-use Rattle.layout.specs.Group.{place, fit, groupRanges, verdict, also, judgedFrom, placeFrom, noGroup}
+use Rattle.layout.specs.Group.{place, fit, groupRanges, verdict, also, judgedAll, noGroup}
 use Rattle.layout.proofs.Walk.{and-both}
 use Rattle.record.specs.Record.{Reading, known, unknown}
 use Rattle.record.specs.Paper.{paperRecord}
 use Rattle.record.specs.declared.Record.{Record}
 use Rattle.writer.specs.Body.{encode, body, bodyLength, textSize, even, exact, allIn, numbersIn, stated}
 use Rattle.writer.specs.Write.{frameLength, frameOf, fitting, judgedAs, judging, answering, leaving}
-use Rattle.writer.specs.Parts.{layoutIn, numbersOf, typeIn, isKnown, groupIn, countOf, inRange, judgedGroups, judgedBy}
+use Rattle.writer.specs.Parts.{layoutIn, numbersOf, typeIn, isKnown, groupIn, countOf, inRange, judgedBy}
 
 -- ---- groups
 
 -- a type without groups
-pub none-even : (gs : List ℕ) → length gs ≡ 0 → accepted tt ≡ judgedGroups noGroup gs 0
-unfolding judgedGroups even fit place groupRanges guard
+pub none-even : (gs : List ℕ) → length gs ≡ 0 → accepted tt ≡ judgedAll noGroup gs 0
+unfolding judgedAll fit place groupRanges guard
 none-even gs h = rw h
 
-pub none-odd : (gs : List ℕ) → (length gs ≡ 0 → ⊥) → refused notItsLayout [] ≡ judgedGroups noGroup gs 0
-unfolding judgedGroups even fit place groupRanges guard
+pub none-odd : (gs : List ℕ) → (length gs ≡ 0 → ⊥) → refused notItsLayout [] ≡ judgedAll noGroup gs 0
+unfolding judgedAll fit place groupRanges guard
 none-odd gs h = rw (ne-eqb 0 (length gs) (λ e. h (sym e)))
-
--- groups whose place behind the last is the end, and those where it is not
-module _ (g : Group) (gs : List ℕ) (k : ℕ) where
-  even-by : (t : Bool) → fit g gs 0 k ≡ t → placeFrom g gs 0 k ≡ length gs → judgedFrom g gs 0 k ≡ judgedGroups g gs k
-  unfolding judgedGroups judgedFrom placeFrom even guard
-  even-by true f e = rw (f, eq-eqb (place g gs 0 k) (length gs) (rw f at e))
-  even-by false f e = rw f
-
-  pub exact-even : placeFrom g gs 0 k ≡ length gs → judgedFrom g gs 0 k ≡ judgedGroups g gs k
-  exact-even e = even-by (fit g gs 0 k) refl e
-
-  odd-by : (t : Bool) → fit g gs 0 k ≡ t → (placeFrom g gs 0 k ≡ length gs → ⊥) → refused notItsLayout [] ≡ judgedGroups g gs k
-  unfolding judgedGroups placeFrom even guard
-  odd-by true f e = rw (f, ne-eqb (place g gs 0 k) (length gs) (rw f at e))
-  odd-by false f e = rw f
-
-  pub exact-odd : (placeFrom g gs 0 k ≡ length gs → ⊥) → refused notItsLayout [] ≡ judgedGroups g gs k
-  exact-odd e = odd-by (fit g gs 0 k) refl e
 
 -- ---- the body's length and the output's
 
@@ -96,9 +78,9 @@ module _ (ts gs : List ℕ) (room : ℕ) where
 
   pub its-texts :
       (x : Reading) → isKnown x ≡ true → length ts ≡ textSize (layoutIn x) →
-      andThen (also (numbersIn (layoutIn x) (numbersOf x)) (judgedGroups (groupIn x) gs (countOf x))) (λ (u : Unit). fitting (size (layoutIn x) + length gs) room)
+      andThen (also (numbersIn (layoutIn x) (numbersOf x)) (judgedAll (groupIn x) gs (countOf x))) (λ (u : Unit). fitting (size (layoutIn x) + length gs) room)
       ≡ judging x ts gs room
-  unfolding judgedAs judgedGroups
+  unfolding judgedAs judgedAll even
   its-texts (known m zs) e h =
       rw (eq-eqb (length ts) (textSize (layoutIn (known m zs))) h)
       (sym
@@ -108,7 +90,7 @@ module _ (ts gs : List ℕ) (room : ℕ) where
 
   by-texts :
       (x : Reading) (t : Bool) → isKnown x ≡ true → eqb (length ts) (textSize (layoutIn x)) ≡ t →
-      judgedBy (size (layoutIn x)) (textSize (layoutIn x)) (length ts) (also (numbersIn (layoutIn x) (numbersOf x)) (judgedGroups (groupIn x) gs (countOf x))) (length gs) room
+      judgedBy (size (layoutIn x)) (textSize (layoutIn x)) (length ts) (also (numbersIn (layoutIn x) (numbersOf x)) (judgedAll (groupIn x) gs (countOf x))) (length gs) room
       ≡ judging x ts gs room
   unfolding judgedBy guard
   by-texts x true k e = rw e (its-texts x k (eqb-true _ _ e))
@@ -117,7 +99,7 @@ module _ (ts gs : List ℕ) (room : ℕ) where
   -- by the verdict that the code found on the groups and the fixed fields of a listed record
   pub by-verdict :
       (r : Record) → isKnown (paperRecord r) ≡ true → {b : Bool} {v w : Answer Unit} → v ≡ also b w → b ≡ inRange r →
-      w ≡ judgedGroups (groupIn (paperRecord r)) gs (countOf (paperRecord r)) →
+      w ≡ judgedAll (groupIn (paperRecord r)) gs (countOf (paperRecord r)) →
       judgedBy (size (layoutIn (paperRecord r))) (textSize (layoutIn (paperRecord r))) (length ts) v (length gs) room ≡ judging (paperRecord r) ts gs room
   by-verdict r k e f g =
       let x = paperRecord r in

@@ -11,12 +11,12 @@ use Rattle.wire.specs.Answer.{Answer, accepted, refused, guard}
 use Rattle.wire.specs.Bytes.{part, splice}
 use Rattle.frame.specs.Framing.{bodyLimit}
 use Rattle.layout.specs.Layout.{size}
-use Rattle.layout.specs.Group.{also}
+use Rattle.layout.specs.Group.{also, judgedAll}
 use Rattle.record.specs.Paper.{paperRecord}
 use Rattle.record.specs.declared.Record.{Record}
 use Rattle.writer.specs.Body.{textSize}
 use Rattle.writer.specs.Paper.{paper}
-use Rattle.writer.specs.Parts.{layoutIn, typeIn, isKnown, groupIn, countOf, fieldsOf, inRange, judgedGroups, judgedBy}
+use Rattle.writer.specs.Parts.{layoutIn, typeIn, isKnown, groupIn, countOf, fieldsOf, inRange, judgedBy}
 use Rattle.writer.specs.Write.{frameOf, judging, leaving}
 use Rattle.writer.specs.declared.Written as code
 use Rattle.writer.proofs.Judging.{Written, by-verdict, written-of, wrote}
@@ -25,7 +25,7 @@ use Rattle.writer.proofs.Output.{length-fields, same-length, round}
 -- the answer on a listed record, in the arm that the code took
 pub judged :
     (r : Record) (ts gs : List ℕ) (room : ℕ) → isKnown (paperRecord r) ≡ true → {b : Bool} {v w : Answer Unit} → v ≡ also b w → b ≡ inRange r →
-    w ≡ judgedGroups (groupIn (paperRecord r)) gs (countOf (paperRecord r)) → {a u : code.Written} →
+    w ≡ judgedAll (groupIn (paperRecord r)) gs (countOf (paperRecord r)) → {a u : code.Written} →
     paper a ≡ judgedBy (size (layoutIn (paperRecord r))) (textSize (layoutIn (paperRecord r))) (length ts) v (length gs) room → a ≡ u →
     paper u ≡ judging (paperRecord r) ts gs room
 judged r ts gs room k e f g h i = sym (ap paper i) ∙ h ∙ by-verdict ts gs room r k e f g

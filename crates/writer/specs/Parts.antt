@@ -9,12 +9,12 @@ use Rattle.wire.specs.Answer.{Answer, refused, guard, andThen}
 use Rattle.wire.specs.Refusal.{notItsLayout}
 use Rattle.layout.specs.Kind.{Kind}
 use Rattle.layout.specs.Layout.{snapshot, Group, commonPart, fields, typeNumber}
-use Rattle.layout.specs.Group.{noGroup, group, groupRanges, verdict}
+use Rattle.layout.specs.Group.{noGroup, group}
 use Rattle.record.specs.Record.{Reading, known, unknown}
 use Rattle.record.specs.Paper.{paperRecord, commonValues}
 use Rattle.record.specs.declared.Record.{Record}
 use Rattle.record.specs.declared.common.Common.{Common}
-use Rattle.writer.specs.Body.{encode, numbersIn, stated, even}
+use Rattle.writer.specs.Body.{encode, numbersIn, stated}
 use Rattle.writer.specs.Write.{fitting}
 
 abbrev pub layoutIn : Reading → List Kind
@@ -47,10 +47,6 @@ fieldsOf r ts = encode (layoutIn (paperRecord r)) (numbersOf (paperRecord r)) ts
 
 abbrev pub inRange : Record → Bool
 inRange r = numbersIn (layoutIn (paperRecord r)) (numbersOf (paperRecord r))
-
--- 4 where groups don't come out even with the count, else 5 where one is out of range
-unfoldable pub judgedGroups : Group → List ℕ → ℕ → Answer Unit
-judgedGroups g gs n = verdict (even g gs n) (groupRanges g gs 0 n)
 
 -- how texts of some length are judged where the layout's take wanted bytes, then a verdict on fields and groups, then a body of size bytes and the groups for an output of room bytes
 unfoldable pub judgedBy : ℕ → ℕ → ℕ → Answer Unit → ℕ → ℕ → Answer ℕ

@@ -7,10 +7,10 @@ ghost use Rattle.writer.specs.Write.{answering, leaving};
 use crate::Written;
 use crate::common::in_range;
 use crate::common::put;
-use crate::groups::exact;
 use crate::judge;
 use crate::store::seal;
 use layout::Groups;
+use layout::judge_all;
 use record::Record;
 use record::Snapshot;
 
@@ -19,7 +19,7 @@ pub fn write_snapshot(r: Snapshot, texts: &[u8], groups: &[u8], out: &mut [u8]) 
     ensures { λ w. ⌜ paper w ≡ answering (paperRecord (variant.Snapshot r)) (now (texts .entry)) (now (groups .entry)) (now (out .entry)) ⌝ }
     ensures { λ w. ⌜ now (out .exit) ≡ leaving (paperRecord (variant.Snapshot r)) (now (texts .entry)) (now (groups .entry)) (now (out .entry)) ⌝ }
 {
-    let verdict = exact(Groups::SnapshotEntries, groups, r.count).also(in_range(r.common));
+    let verdict = judge_all(Groups::SnapshotEntries, groups, r.count).also(in_range(r.common));
     match judge(69, 23, texts.len(), verdict, groups.len(), out.len()) {
         Written::Whole(n) => {
             put(r.common, r.count, texts, &mut out[8..77]);

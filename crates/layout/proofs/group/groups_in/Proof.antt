@@ -5,6 +5,7 @@ use native.Mathlib.Omega.{arith}
 use borrow.Author.Needs.{needs}
 use lib.ListN.{length}
 use denote.Ref.{now}
+use Rattle.wire.proofs.Be.{part-length}
 use Rattle.layout.specs.Layout.{size, ranges}
 use Rattle.layout.specs.Paper.{meant}
 use Rattle.layout.specs.Group as of
@@ -49,6 +50,18 @@ add-q c = omega (arith, there c .fixed)
 part-e-end : tie.Need-part-e-end Inv-loop μ-loop
 part-e-end c = omega (arith, there c .fixed)
 
+shown-requires : tie.Need-shown-requires Inv-loop μ-loop
+shown-requires c κs =
+    let p = c .before .before .loop .p in
+    let l = part-length p (p + c .before .before .before .width .result) (now (c .before .before .before .before .before .args .s)) (omega (arith, there (c .before) .fixed)) in
+    omega arith
+
+fields-in-requires : tie.Need-fields-in-requires Inv-loop μ-loop
+fields-in-requires c κs =
+    let p = c .before .before .before .loop .p in
+    let l = part-length p (p + c .before .before .before .before .width .result) (now (c .before .before .before .before .before .before .args .s)) (omega (arith, there (c .before .before) .fixed)) in
+    omega arith
+
 quantities-in-requires : tie.Need-quantities-in-requires Inv-loop μ-loop
 quantities-in-requires c κs = let e = onward (c .before) in omega (arith, there (c .before .before .before) .whole)
 
@@ -67,5 +80,5 @@ returns-2 c = sym (c .before .loop .inv .1 .1 .1 ∙ groupRanges-none _ _ _ _ (c
 pub groups-in-spec : {M : Type 1} → statement M
 groups-in-spec =
     tie.close (tie.spec Inv-loop μ-loop (λ c κs. search needs) loop-holds add-q (λ c. omega arith) (λ c. omega arith)
-    part-e-end (λ c κs. search needs) (λ c κs. search needs) quantities-in-requires (λ c. omega arith) add-p
+    part-e-end shown-requires fields-in-requires quantities-in-requires (λ c. omega arith) add-p
     (λ c. omega arith) (λ c. omega arith) loop-again returns returns-2)

@@ -19,7 +19,7 @@ unfolding size textSize
 part-put-end c =
     let j = c .before .before .before in
     let a = j .before .before .before .before .before .before .before .args in
-    let e = judged (Index (a .r)) (now (a .texts)) (now (a .groups)) (length (now (a .out))) refl (j .before .also .ensures) (j .before .before .in-range .ensures ∙ index-in (a .r)) (j .before .before .before .exact .ensures) (j .judge .ensures) (c .before .n .given .1) in
+    let e = judged (Index (a .r)) (now (a .texts)) (now (a .groups)) (length (now (a .out))) refl (j .before .also .ensures) (j .before .before .in-range .ensures ∙ index-in (a .r)) (j .before .before .before .judge-all .ensures) (j .judge .ensures) (c .before .n .given .1) in
     omega (arith, ends (Index (a .r)) (now (a .texts)) (now (a .groups)) (now (a .out)) e)
 
 put-requires : tie.Need-put-requires
@@ -27,7 +27,7 @@ unfolding size textSize
 put-requires c κs =
     let j = c .before .before .before .before in
     let a = j .before .before .before .before .before .before .before .args in
-    let e = judged (Index (a .r)) (now (a .texts)) (now (a .groups)) (length (now (a .out))) refl (j .before .also .ensures) (j .before .before .in-range .ensures ∙ index-in (a .r)) (j .before .before .before .exact .ensures) (j .judge .ensures) (c .before .before .n .given .1) in
+    let e = judged (Index (a .r)) (now (a .texts)) (now (a .groups)) (length (now (a .out))) refl (j .before .also .ensures) (j .before .before .in-range .ensures ∙ index-in (a .r)) (j .before .before .before .judge-all .ensures) (j .judge .ensures) (c .before .before .n .given .1) in
     lent (Index (a .r)) (now (a .texts)) (now (a .groups)) (now (a .out)) e
 
 seal-requires : tie.Need-seal-requires
@@ -35,7 +35,7 @@ unfolding size textSize
 seal-requires c κs =
     let j = c .before .before .before .before .before .before .before .before in
     let a = j .before .before .before .before .before .before .before .args in
-    let e = judged (Index (a .r)) (now (a .texts)) (now (a .groups)) (length (now (a .out))) refl (j .before .also .ensures) (j .before .before .in-range .ensures ∙ index-in (a .r)) (j .before .before .before .exact .ensures) (j .judge .ensures) (c .before .before .before .before .before .before .n .given .1) in
+    let e = judged (Index (a .r)) (now (a .texts)) (now (a .groups)) (length (now (a .out))) refl (j .before .also .ensures) (j .before .before .in-range .ensures ∙ index-in (a .r)) (j .before .before .before .judge-all .ensures) (j .judge .ensures) (c .before .before .before .before .before .before .n .given .1) in
     sealing (Index (a .r)) (now (a .texts)) (now (a .groups)) (now (a .out)) e (c .before .before .before .put .ensures)
 
 returns : tie.Need-returns
@@ -43,7 +43,7 @@ unfolding size textSize answering
 returns c =
     let j = c .before .before .before .before .before .before .before .before .before .before .before in
     let a = j .before .before .before .before .before .before .before .args in
-    let e = judged (Index (a .r)) (now (a .texts)) (now (a .groups)) (length (now (a .out))) refl (j .before .also .ensures) (j .before .before .in-range .ensures ∙ index-in (a .r)) (j .before .before .before .exact .ensures) (j .judge .ensures) (c .before .before .before .before .before .before .before .before .before .n .given .1) in
+    let e = judged (Index (a .r)) (now (a .texts)) (now (a .groups)) (length (now (a .out))) refl (j .before .also .ensures) (j .before .before .in-range .ensures ∙ index-in (a .r)) (j .before .before .before .judge-all .ensures) (j .judge .ensures) (c .before .before .before .before .before .before .before .before .before .n .given .1) in
     (e, left (Index (a .r)) (now (a .texts)) (now (a .groups)) (now (a .out)) e (c .before .before .before .before .before .before .put .ensures) (c .before .before .seal .ensures))
 
 returns-2 : tie.Need-returns-2
@@ -51,7 +51,7 @@ unfolding size textSize answering
 returns-2 c =
     let j = c .before .before .before in
     let a = j .before .before .before .before .before .before .before .args in
-    let e = judged (Index (a .r)) (now (a .texts)) (now (a .groups)) (length (now (a .out))) refl (j .before .also .ensures) (j .before .before .in-range .ensures ∙ index-in (a .r)) (j .before .before .before .exact .ensures) (j .judge .ensures) (c .before .x .given .1) in
+    let e = judged (Index (a .r)) (now (a .texts)) (now (a .groups)) (length (now (a .out))) refl (j .before .also .ensures) (j .before .before .in-range .ensures ∙ index-in (a .r)) (j .before .before .before .judge-all .ensures) (j .judge .ensures) (c .before .x .given .1) in
     (e, kept-output (paperRecord (Index (a .r))) (now (a .texts)) (now (a .groups)) (now (a .out)) _ _ (sym e))
 
 pub write-index-spec : {M : Type 1} → statement M

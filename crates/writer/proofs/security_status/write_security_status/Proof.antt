@@ -18,7 +18,7 @@ unfolding size textSize
 part-put-end c =
     let j = c .before .before .before in
     let a = j .before .before .before .before .before .before .before .args in
-    let e = judged (SecurityStatus (a .r)) (now (a .texts)) (now (a .groups)) (length (now (a .out))) refl (j .before .also .ensures) (j .before .before .in-range .ensures) (j .before .before .before .exact .ensures) (j .judge .ensures) (c .before .n .given .1) in
+    let e = judged (SecurityStatus (a .r)) (now (a .texts)) (now (a .groups)) (length (now (a .out))) refl (j .before .also .ensures) (j .before .before .in-range .ensures) (j .before .before .before .judge-all .ensures) (j .judge .ensures) (c .before .n .given .1) in
     omega (arith, ends (SecurityStatus (a .r)) (now (a .texts)) (now (a .groups)) (now (a .out)) e)
 
 put-requires : tie.Need-put-requires
@@ -26,7 +26,7 @@ unfolding size textSize
 put-requires c κs =
     let j = c .before .before .before .before in
     let a = j .before .before .before .before .before .before .before .args in
-    let e = judged (SecurityStatus (a .r)) (now (a .texts)) (now (a .groups)) (length (now (a .out))) refl (j .before .also .ensures) (j .before .before .in-range .ensures) (j .before .before .before .exact .ensures) (j .judge .ensures) (c .before .before .n .given .1) in
+    let e = judged (SecurityStatus (a .r)) (now (a .texts)) (now (a .groups)) (length (now (a .out))) refl (j .before .also .ensures) (j .before .before .in-range .ensures) (j .before .before .before .judge-all .ensures) (j .judge .ensures) (c .before .before .n .given .1) in
     lent (SecurityStatus (a .r)) (now (a .texts)) (now (a .groups)) (now (a .out)) e
 
 seal-requires : tie.Need-seal-requires
@@ -34,7 +34,7 @@ unfolding size textSize
 seal-requires c κs =
     let j = c .before .before .before .before .before .before .before .before in
     let a = j .before .before .before .before .before .before .before .args in
-    let e = judged (SecurityStatus (a .r)) (now (a .texts)) (now (a .groups)) (length (now (a .out))) refl (j .before .also .ensures) (j .before .before .in-range .ensures) (j .before .before .before .exact .ensures) (j .judge .ensures) (c .before .before .before .before .before .before .n .given .1) in
+    let e = judged (SecurityStatus (a .r)) (now (a .texts)) (now (a .groups)) (length (now (a .out))) refl (j .before .also .ensures) (j .before .before .in-range .ensures) (j .before .before .before .judge-all .ensures) (j .judge .ensures) (c .before .before .before .before .before .before .n .given .1) in
     sealing (SecurityStatus (a .r)) (now (a .texts)) (now (a .groups)) (now (a .out)) e (c .before .before .before .put .ensures)
 
 returns : tie.Need-returns
@@ -42,7 +42,7 @@ unfolding size textSize answering
 returns c =
     let j = c .before .before .before .before .before .before .before .before .before .before .before in
     let a = j .before .before .before .before .before .before .before .args in
-    let e = judged (SecurityStatus (a .r)) (now (a .texts)) (now (a .groups)) (length (now (a .out))) refl (j .before .also .ensures) (j .before .before .in-range .ensures) (j .before .before .before .exact .ensures) (j .judge .ensures) (c .before .before .before .before .before .before .before .before .before .n .given .1) in
+    let e = judged (SecurityStatus (a .r)) (now (a .texts)) (now (a .groups)) (length (now (a .out))) refl (j .before .also .ensures) (j .before .before .in-range .ensures) (j .before .before .before .judge-all .ensures) (j .judge .ensures) (c .before .before .before .before .before .before .before .before .before .n .given .1) in
     (e, left (SecurityStatus (a .r)) (now (a .texts)) (now (a .groups)) (now (a .out)) e (c .before .before .before .before .before .before .put .ensures) (c .before .before .seal .ensures))
 
 returns-2 : tie.Need-returns-2
@@ -50,7 +50,7 @@ unfolding size textSize answering
 returns-2 c =
     let j = c .before .before .before in
     let a = j .before .before .before .before .before .before .before .args in
-    let e = judged (SecurityStatus (a .r)) (now (a .texts)) (now (a .groups)) (length (now (a .out))) refl (j .before .also .ensures) (j .before .before .in-range .ensures) (j .before .before .before .exact .ensures) (j .judge .ensures) (c .before .x .given .1) in
+    let e = judged (SecurityStatus (a .r)) (now (a .texts)) (now (a .groups)) (length (now (a .out))) refl (j .before .also .ensures) (j .before .before .in-range .ensures) (j .before .before .before .judge-all .ensures) (j .judge .ensures) (c .before .x .given .1) in
     (e, kept-output (paperRecord (SecurityStatus (a .r))) (now (a .texts)) (now (a .groups)) (now (a .out)) _ _ (sym e))
 
 pub write-security-status-spec : {M : Type 1} → statement M
