@@ -3,6 +3,7 @@
 pub const SNAPSHOT: u32 = 300_111;
 pub const TRADE: u32 = 300_191;
 pub const ORDER: u32 = 300_192;
+pub const RESEND: u32 = 390_094;
 
 #[repr(C)]
 #[derive(Clone, Copy, Debug, PartialEq, Eq)]
@@ -130,6 +131,7 @@ mod calls {
         pub fn orizhgum_step_price(at: Cursor, kind: u32, body: *const u8, n: usize, price: *mut i64) -> u32;
         pub fn orizhgum_set_up(channels: *const u16, n: usize) -> ArrivalAnswer;
         pub fn orizhgum_tick(tracker: Tracker, channel: u16, number: i64) -> ArrivalAnswer;
+        pub fn orizhgum_request(tracker: Tracker, channel: u16, out: *mut u8, n: usize) -> WriteAnswer;
         pub fn orizhgum_write_order(r: Order, t: *const u8, tn: usize, g: *const u8, gn: usize, out: *mut u8, n: usize) -> WriteAnswer;
         pub fn orizhgum_write_trade(r: Trade, t: *const u8, tn: usize, g: *const u8, gn: usize, out: *mut u8, n: usize) -> WriteAnswer;
         pub fn orizhgum_write_snapshot(r: Snapshot, t: *const u8, tn: usize, g: *const u8, gn: usize, out: *mut u8, n: usize) -> WriteAnswer;
@@ -171,6 +173,10 @@ pub fn set_up(channels: &[u16]) -> ArrivalAnswer {
 
 pub fn tick(tracker: Tracker, channel: u16, number: i64) -> ArrivalAnswer {
     unsafe { calls::orizhgum_tick(tracker, channel, number) }
+}
+
+pub fn request(tracker: Tracker, channel: u16, out: &mut [u8]) -> WriteAnswer {
+    unsafe { calls::orizhgum_request(tracker, channel, out.as_mut_ptr(), out.len()) }
 }
 
 pub fn write_order(r: &Order, texts: &[u8], groups: &[u8], out: &mut [u8]) -> WriteAnswer {

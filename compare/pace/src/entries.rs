@@ -24,6 +24,7 @@ fn told(e: &[u8]) -> (Entry, Option<i64>) {
 }
 
 /// The entry at a cursor of a snapshot with its price, and the cursor behind it.
+#[inline(always)]
 fn step_priced(at: Cursor, kind: u32, s: &[u8]) -> (StepAnswer, Option<i64>) {
     let none = |answer| (StepAnswer { answer, next: at, ..StepAnswer::default() }, None);
     if kind != SNAPSHOT || at.left == 0 {

@@ -5,6 +5,7 @@ mod frames;
 mod inputs;
 mod ranges;
 mod records;
+mod requests;
 mod ticks;
 mod tracker;
 mod writing;
@@ -41,4 +42,5 @@ fn main() {
     entries::run();
     writing::run();
     ticks::run();
+    requests::run();
 }

@@ -1,4 +1,7 @@
 //! Rust's tracker: an array of structs changed through `&mut`, with rule 10 judged on every call.
+use crate::board::{WriteAnswer, RESEND};
+use crate::writing::{refused, sealed};
+
 #[derive(Clone, Copy, PartialEq, Eq, Default)]
 pub struct Run {
     first: u64,
@@ -33,7 +36,7 @@ impl Channel {
             }
             low = r.last + 2;
         }
-        self.runs[self.count..].iter().all(|r| *r == Run::default())
+        self.runs[self.count..].iter().fold(0, |bits, r| bits | r.first | r.last) == 0
     }
 
     fn blank(&self) -> bool {
@@ -122,5 +125,31 @@ impl Tracker {
             Some(_) if n < 1 => 8,
             Some(c) => c.tick(n as u64),
         }
+    }
+
+    /// The frame that asks for the first run of a channel, or for its first 200 numbers.
+    #[inline(never)]
+    pub fn request(&self, channel: u16, out: &mut [u8]) -> WriteAnswer {
+        if !self.sound() {
+            return refused(10);
+        }
+        let Some(c) = self.channels[..self.count].iter().find(|c| c.number == channel) else {
+            return refused(7);
+        };
+        let Some(run) = c.runs[..c.count].first() else {
+            return refused(105);
+        };
+        if out.len() < 56 {
+            return refused(6);
+        }
+        let b = &mut out[8..52];
+        b[0] = 1;
+        b[1..3].copy_from_slice(&channel.to_be_bytes());
+        b[3..11].copy_from_slice(&run.first.to_be_bytes());
+        b[11..19].copy_from_slice(&run.last.min(run.first + 199).to_be_bytes());
+        b[19..27].fill(b' ');
+        b[27] = 0;
+        b[28..44].fill(b' ');
+        sealed(RESEND, 44, out)
     }
 }

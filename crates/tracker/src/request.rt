@@ -4,11 +4,11 @@ ghost use Prim.Native.Nat.{_≤_};
 ghost use lib.ListN.{length};
 ghost use Rattle.gaps.specs.Limits.{mostNumber};
 ghost use Rattle.record.specs.Paper.{paperRecord};
+ghost use Rattle.record.specs.declared.Record.the-variants as variant;
 ghost use Rattle.tracker.specs.FirstRun.{lost};
 ghost use Rattle.tracker.specs.Request.{asked, resendOf, fitting, answerOf, outputOf, paper};
 use crate::Requested;
 use gaps::Run;
-use record::Record;
 use record::Resend;
 use writer::Written;
 
@@ -26,18 +26,18 @@ fn asked(run: Run) -> Run
     }
 }
 
-// The record that asks for these numbers.
-fn resend(channel: u16, run: Run) -> Record
+// The numbers of the record that asks for these.
+fn resend(channel: u16, run: Run) -> Resend
     requires { ⌜ (run .first ≤ mostNumber) × (run .last ≤ mostNumber) ⌝ }
-    ensures { λ r. ⌜ paperRecord r ≡ resendOf channel run ⌝ }
+    ensures { λ r. ⌜ paperRecord (variant.Resend r) ≡ resendOf channel run ⌝ }
 {
-    Record::Resend(Resend {
+    Resend {
         resend_type: 1,
-        channel: channel,
+        channel,
         first_number: run.first as i64,
         last_number: run.last as i64,
         status: 0,
-    })
+    }
 }
 
 // Writes the frame that asks for the numbers of a run, where the output has room for it.
@@ -47,7 +47,7 @@ pub(crate) fn ask(channel: u16, run: Run, out: &mut [u8]) -> Requested
     ensures { λ r. ⌜ now (out .exit) ≡ outputOf (fitting (length (now (out .entry))) (lost run)) channel (now (out .entry)) ⌝ }
 {
     let spaces = [b' '; 24];
-    match writer::write(resend(channel, asked(run)), &spaces, b"", out) {
+    match writer::write_resend(resend(channel, asked(run)), &spaces, b"", out) {
         Written::Whole(n) => Requested::Written(n),
         Written::Refused(_) => Requested::OutputShort,
     }

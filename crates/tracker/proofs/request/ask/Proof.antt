@@ -21,7 +21,7 @@ returns c =
     let a = c .before .before .before .before .before .before .before .before .before .before .asked in
     let w = asked-within (s .run) in
     let e = c .before .before .before .before .before .before .before .before .before .resend .ensures ∙ ap (λ (r : Run). resendOf (s .channel) r) (a .ensures) in
-    let m = c .before .before .before .before .before .write .ensures in
+    let m = c .before .before .before .before .before .write-resend .ensures in
     let n = c .before .n .given in
     whole (s .channel) (s .run) (now (s .out)) (omega (arith, w .low, w .high)) (omega (arith, w .high)) e (n .0 .0) _ (sym (ap writer.paper (n .1)) ∙ m .0) (m .1)
 
@@ -31,7 +31,7 @@ returns-2 c =
     let a = c .before .before .before .before .before .before .before .before .before .asked in
     let w = asked-within (s .run) in
     let e = c .before .before .before .before .before .before .before .before .resend .ensures ∙ ap (λ (r : Run). resendOf (s .channel) r) (a .ensures) in
-    let m = c .before .before .before .before .write .ensures in
+    let m = c .before .before .before .before .write-resend .ensures in
     let n = c .enum-told .given in
     short (s .channel) (s .run) (now (s .out)) (omega (arith, w .low, w .high)) (omega (arith, w .high)) e _ _ _ (sym (ap writer.paper (n .1)) ∙ m .0) (m .1)
 
