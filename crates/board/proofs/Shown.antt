@@ -9,7 +9,7 @@ use lib.Seq.{take-length}
 use Rattle.wire.specs.Answer.{Answer, accepted, refused}
 use Rattle.layout.specs.Layout.{Message, typeNumber, fields, texts}
 use Rattle.layout.specs.Group.{judged}
-use Rattle.record.specs.Asked.{Told, onceAccepted}
+use Rattle.record.specs.Asked.{Told, onceAccepted, filled}
 use Rattle.record.specs.Record.{Reading, numbersAs, readAs, reading}
 use Rattle.record.specs.Paper.{paperAnswer}
 use Rattle.record.specs.declared.Answer as code-answer
@@ -52,3 +52,13 @@ shown-by m s e f =
     let g = e ∙ ap (λ t. heardOf t s) (sym (reads-as s m refl)) in
     let n = f ∙ ap (λ (x : Heard). numbersAs m (take (x .length - 0) s)) g ∙ ap (numbersAs m) (part-read (readAs m s .answer) s) ∙ numbers-read m s in
     λ i. record { answer = g i .answer; numbers = n i; texts = g i .texts }
+
+-- a body that its type's own call judged: accepted, with its numbers and its texts, or refused
+module _ (m : Message) (s : List ℕ) {r : Reading} {b : List ℕ} where
+  pub shown-accepted : judged m s ≡ accepted tt → r ≡ numbersAs m s → b ≡ filled (texts (fields m) s 0) → _≡_ {A = Shown} (record { answer = 0; numbers = r; texts = b }) (shown m s)
+  unfolding shown readAs
+  shown-accepted e f g = rw e (λ i. record { answer = 0; numbers = f i; texts = g i })
+
+  pub shown-refused : {n : ℕ} {vs : List ℕ} → judged m s ≡ refused n vs → r ≡ numbersAs m [] → b ≡ filled [] → _≡_ {A = Shown} (record { answer = n; numbers = r; texts = b }) (shown m s)
+  unfolding shown readAs
+  shown-refused {n} e f g = rw e (λ i. record { answer = n; numbers = f i; texts = g i })

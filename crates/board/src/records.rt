@@ -6,6 +6,7 @@ ghost use Rattle.record.specs.declared.Record.the-variants as is;
 ghost use Rattle.board.specs.Records.{shown, shownAs, heardOf};
 use crate::answers::PLAIN;
 use crate::answers::number;
+use layout::Verdict;
 use record::Answer;
 use record::ChannelHeartbeat;
 use record::Index;
@@ -57,13 +58,21 @@ pub struct OrderAnswer {
 pub extern "C" fn orizhgum_order(body: &[u8]) -> OrderAnswer
     ensures { λ r. ⌜ shownAs (r .answer) (is.Order (r .numbers)) (r .texts) ≡ shown of.order (now (body .entry)) ⌝ }
 {
-    let h = hear(Record::ORDER, body);
-    let n = h.length;
-    let texts = h.texts;
-    OrderAnswer {
-        answer: h.answer,
-        numbers: record::order_of(&body[0..n]),
-        texts,
+    match record::judge_order(body) {
+        Verdict::Accepted => {
+            let t = record::order_texts(body);
+            let texts = t.bytes;
+            OrderAnswer {
+                answer: PLAIN,
+                numbers: record::order_of(body),
+                texts,
+            }
+        }
+        Verdict::Refused(x) => OrderAnswer {
+            answer: number(x),
+            numbers: record::order_of(&body[0..0]),
+            texts: [0u8; 24],
+        },
     }
 }
 
@@ -78,13 +87,21 @@ pub struct TradeAnswer {
 pub extern "C" fn orizhgum_trade(body: &[u8]) -> TradeAnswer
     ensures { λ r. ⌜ shownAs (r .answer) (is.Trade (r .numbers)) (r .texts) ≡ shown of.trade (now (body .entry)) ⌝ }
 {
-    let h = hear(Record::TRADE, body);
-    let n = h.length;
-    let texts = h.texts;
-    TradeAnswer {
-        answer: h.answer,
-        numbers: record::trade_of(&body[0..n]),
-        texts,
+    match record::judge_trade(body) {
+        Verdict::Accepted => {
+            let t = record::trade_texts(body);
+            let texts = t.bytes;
+            TradeAnswer {
+                answer: PLAIN,
+                numbers: record::trade_of(body),
+                texts,
+            }
+        }
+        Verdict::Refused(x) => TradeAnswer {
+            answer: number(x),
+            numbers: record::trade_of(&body[0..0]),
+            texts: [0u8; 24],
+        },
     }
 }
 

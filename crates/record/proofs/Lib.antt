@@ -1,6 +1,7 @@
-pub mod Tell
-pub mod Gathered
 pub mod Choice
+pub mod Gathered
 pub mod Grouped
-pub mod Unique
+pub mod Had
 pub mod Names
+pub mod Tell
+pub mod Unique

@@ -3,8 +3,9 @@
 use Prim.Native.Nat.{ℕ, _+_}
 use mathlib.Core.Bool.{Bool, true, false, cond}
 use mathlib.Core.List.{List, []}
-use lib.Dec.{eqb}
+use lib.Dec.{eqb, leb}
 use lib.IntN.{ℤ}
+use lib.ListN.{length}
 use Rattle.wire.specs.Answer.{Answer, accepted, refused}
 use Rattle.wire.specs.Bytes.{part}
 use Rattle.frame.specs.Framing.{headerWidth, bodyLimit, framing, bodyOf}
@@ -22,6 +23,10 @@ pub data Reading : Type 0 where
 -- some bytes as a listed type, not judged; bytes that are not there count as none
 abbrev pub numbersAs : Message → List ℕ → Reading
 numbersAs m s = known m (values (fields m) s 0)
+
+-- bytes that have the fields of a listed type; others count as none
+unfoldable pub had : Message → List ℕ → List ℕ
+had m s = cond (leb (start m) (length s)) s []
 
 -- the body of a listed type
 unfoldable pub readAs : Message → List ℕ → Told Reading

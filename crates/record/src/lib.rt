@@ -42,7 +42,9 @@ use layout::Verdict;
 pub use named::group_text_of;
 pub use named::text_of;
 pub use order::Order;
+pub use order::judge_order;
 pub use order::order_of;
+pub use order::order_texts;
 pub use resend::Resend;
 pub use resend::resend_of;
 pub use security_status::SecurityStatus;
@@ -57,7 +59,9 @@ pub use texts::Text;
 pub use texts::Texts;
 use texts::no_texts;
 pub use trade::Trade;
+pub use trade::judge_trade;
 pub use trade::trade_of;
+pub use trade::trade_texts;
 pub use volume_index::VolumeIndex;
 pub use volume_index::volume_index_of;
 
@@ -159,8 +163,8 @@ pub fn judge(kind: u32, body: &[u8]) -> Verdict
         Record::SNAPSHOT => snapshot::judge(body),
         Record::INDEX => index::judge(body),
         Record::VOLUME_INDEX => volume_index::judge(body),
-        Record::ORDER => order::judge(body),
-        Record::TRADE => trade::judge(body),
+        Record::ORDER => order::judge_order(body),
+        Record::TRADE => trade::judge_trade(body),
         _ => Verdict::Accepted,
     }
 }

@@ -1,17 +1,21 @@
 // 300192, order; its texts are stream, security and source.
 ghost use mathlib.Core.Path.{_≡_};
-ghost use Rattle.layout.specs.Layout.{fields, ranges};
+ghost use lib.ListN.{length};
+ghost use Rattle.layout.specs.Layout.{fields, ranges, texts};
 ghost use Rattle.layout.specs.Layout as of;
 ghost use Rattle.layout.specs.Group.{judged};
 ghost use Rattle.layout.specs.Paper as layout_paper;
+ghost use Rattle.record.specs.Asked.{filled};
 ghost use Rattle.record.specs.Paper.{paper, paperRecord};
-ghost use Rattle.record.specs.Record.{numbersAs, readAs};
+ghost use Rattle.record.specs.Record.{numbersAs, had, readAs};
 ghost use Rattle.record.specs.declared.Record.the-variants as is;
 use crate::Answer;
 use crate::Reading;
 use crate::Record;
 use crate::refused;
+use crate::texts::Texts;
 use crate::texts::gather;
+use crate::texts::no_texts;
 use layout::Refusal;
 use layout::Verdict;
 use layout::number;
@@ -44,7 +48,7 @@ fn in_range(body: &[u8]) -> bool
 }
 
 // 4 where the body lacks bytes, else 5 where a field is out of range.
-pub(crate) fn judge(body: &[u8]) -> Verdict
+pub fn judge_order(body: &[u8]) -> Verdict
     ensures { λ r. ⌜ layout_paper.paper r ≡ judged of.order (now (body .entry)) ⌝ }
 {
     if body.len() < 51 {
@@ -53,28 +57,50 @@ pub(crate) fn judge(body: &[u8]) -> Verdict
     Verdict::Accepted.also(in_range(body))
 }
 
-// The numbers of some bytes as an order's, not judged.
+// The numbers of an order that some bytes have; all 0 where they lack some of its fields.
 pub fn order_of(body: &[u8]) -> Order
-    ensures { λ r. ⌜ paperRecord (is.Order r) ≡ numbersAs of.order (now (body .entry)) ⌝ }
+    ensures { λ r. ⌜ paperRecord (is.Order r) ≡ numbersAs of.order (had of.order (now (body .entry))) ⌝ }
 {
-    Order {
-        channel: wire::be2(body, 0),
-        number: wire::i64_at(body, 2),
-        order_price: wire::i64_at(body, 25),
-        quantity: wire::i64_at(body, 33),
-        side: wire::be1(body, 41),
-        time: wire::i64_at(body, 42),
-        order_type: wire::be1(body, 50),
+    if body.len() < 51 {
+        return Order {
+            channel: 0,
+            number: 0,
+            order_price: 0,
+            quantity: 0,
+            side: 0,
+            time: 0,
+            order_type: 0,
+        };
     }
+    let b = &body[0..51];
+    Order {
+        channel: wire::be2(b, 0),
+        number: wire::i64_at(b, 2),
+        order_price: wire::i64_at(b, 25),
+        quantity: wire::i64_at(b, 33),
+        side: wire::be1(b, 41),
+        time: wire::i64_at(b, 42),
+        order_type: wire::be1(b, 50),
+    }
+}
+
+// The texts of an order that some bytes have; none where they lack some of its fields.
+pub fn order_texts(body: &[u8]) -> Texts
+    ensures { λ r. ⌜ (r .bytes ≡ filled (texts (fields of.order) (had of.order (now (body .entry))) 0)) × (r .length ≡ length (texts (fields of.order) (had of.order (now (body .entry))) 0)) ⌝ }
+{
+    if body.len() < 51 {
+        return no_texts();
+    }
+    gather(body, 10, 15, 0, 0)
 }
 
 pub(crate) fn read(body: &[u8]) -> Reading
     ensures { λ r. ⌜ paper r ≡ readAs of.order (now (body .entry)) ⌝ }
 {
-    match judge(body) {
+    match judge_order(body) {
         Verdict::Accepted => Reading {
             answer: Answer::Read(Record::Order(order_of(body))),
-            texts: gather(body, 10, 15, 0, 0),
+            texts: order_texts(body),
         },
         Verdict::Refused(x) => refused(x),
     }

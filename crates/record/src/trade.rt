@@ -1,17 +1,21 @@
 // 300191, trade; its texts are stream, security and source.
 ghost use mathlib.Core.Path.{_≡_};
-ghost use Rattle.layout.specs.Layout.{fields, ranges};
+ghost use lib.ListN.{length};
+ghost use Rattle.layout.specs.Layout.{fields, ranges, texts};
 ghost use Rattle.layout.specs.Layout as of;
 ghost use Rattle.layout.specs.Group.{judged};
 ghost use Rattle.layout.specs.Paper as layout_paper;
+ghost use Rattle.record.specs.Asked.{filled};
 ghost use Rattle.record.specs.Paper.{paper, paperRecord};
-ghost use Rattle.record.specs.Record.{numbersAs, readAs};
+ghost use Rattle.record.specs.Record.{numbersAs, had, readAs};
 ghost use Rattle.record.specs.declared.Record.the-variants as is;
 use crate::Answer;
 use crate::Reading;
 use crate::Record;
 use crate::refused;
+use crate::texts::Texts;
 use crate::texts::gather;
+use crate::texts::no_texts;
 use layout::Refusal;
 use layout::Verdict;
 use layout::execution;
@@ -46,7 +50,7 @@ fn in_range(body: &[u8]) -> bool
 }
 
 // 4 where the body lacks bytes, else 5 where a field is out of range.
-pub(crate) fn judge(body: &[u8]) -> Verdict
+pub fn judge_trade(body: &[u8]) -> Verdict
     ensures { λ r. ⌜ layout_paper.paper r ≡ judged of.trade (now (body .entry)) ⌝ }
 {
     if body.len() < 66 {
@@ -55,29 +59,52 @@ pub(crate) fn judge(body: &[u8]) -> Verdict
     Verdict::Accepted.also(in_range(body))
 }
 
-// The numbers of some bytes as a trade's, not judged.
+// The numbers of a trade that some bytes have; all 0 where they lack some of its fields.
 pub fn trade_of(body: &[u8]) -> Trade
-    ensures { λ r. ⌜ paperRecord (is.Trade r) ≡ numbersAs of.trade (now (body .entry)) ⌝ }
+    ensures { λ r. ⌜ paperRecord (is.Trade r) ≡ numbersAs of.trade (had of.trade (now (body .entry))) ⌝ }
 {
-    Trade {
-        channel: wire::be2(body, 0),
-        number: wire::i64_at(body, 2),
-        bid_number: wire::i64_at(body, 13),
-        offer_number: wire::i64_at(body, 21),
-        trade_price: wire::i64_at(body, 41),
-        quantity: wire::i64_at(body, 49),
-        execution: wire::be1(body, 57),
-        time: wire::i64_at(body, 58),
+    if body.len() < 66 {
+        return Trade {
+            channel: 0,
+            number: 0,
+            bid_number: 0,
+            offer_number: 0,
+            trade_price: 0,
+            quantity: 0,
+            execution: 0,
+            time: 0,
+        };
     }
+    let b = &body[0..66];
+    Trade {
+        channel: wire::be2(b, 0),
+        number: wire::i64_at(b, 2),
+        bid_number: wire::i64_at(b, 13),
+        offer_number: wire::i64_at(b, 21),
+        trade_price: wire::i64_at(b, 41),
+        quantity: wire::i64_at(b, 49),
+        execution: wire::be1(b, 57),
+        time: wire::i64_at(b, 58),
+    }
+}
+
+// The texts of a trade that some bytes have; none where they lack some of its fields.
+pub fn trade_texts(body: &[u8]) -> Texts
+    ensures { λ r. ⌜ (r .bytes ≡ filled (texts (fields of.trade) (had of.trade (now (body .entry))) 0)) × (r .length ≡ length (texts (fields of.trade) (had of.trade (now (body .entry))) 0)) ⌝ }
+{
+    if body.len() < 66 {
+        return no_texts();
+    }
+    gather(body, 10, 3, 29, 12)
 }
 
 pub(crate) fn read(body: &[u8]) -> Reading
     ensures { λ r. ⌜ paper r ≡ readAs of.trade (now (body .entry)) ⌝ }
 {
-    match judge(body) {
+    match judge_trade(body) {
         Verdict::Accepted => Reading {
             answer: Answer::Read(Record::Trade(trade_of(body))),
-            texts: gather(body, 10, 3, 29, 12),
+            texts: trade_texts(body),
         },
         Verdict::Refused(x) => refused(x),
     }

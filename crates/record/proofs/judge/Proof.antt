@@ -27,6 +27,6 @@ judge-spec =
     (λ c. c .judge6 .ensures ∙ judges-as _ snapshot (c .before .match .keys6))
     (λ c. c .judge7 .ensures ∙ judges-as _ index (c .before .match .keys7))
     (λ c. c .judge8 .ensures ∙ judges-as _ volumeIndex (c .before .match .keys8))
-    (λ c. c .judge9 .ensures ∙ judges-as _ order (c .before .match .keys9))
-    (λ c. c .judge10 .ensures ∙ judges-as _ trade (c .before .match .keys10))
+    (λ c. c .judge-order .ensures ∙ judges-as _ order (c .before .match .keys9))
+    (λ c. c .judge-trade .ensures ∙ judges-as _ trade (c .before .match .keys10))
     (λ c. judges-none _ (c .match .rest)))

@@ -1,16 +1,25 @@
 use borrow.Author.Needs.{needs}
+use denote.Ref.{now}
+use native.Mathlib.Omega.{arith}
 use lib.IntN.{pos}
+use mathlib.Core.Path.{refl, _∙_}
 use mathlib.Core.List.{[], _∷_}
-use Rattle.layout.specs.Layout.{trade, values}
+use Rattle.wire.specs.Bytes.{beAt}
+use Rattle.layout.specs.Layout.{trade, size, values}
 use Rattle.record.specs.Record.{known}
+use Rattle.record.proofs.Had.{had-none, numbers-head}
 use Rattle.record.proofs.Tell.{kept}
 use Rattle.record.proofs.trade.trade_of.Statement.{statement}
 use Rattle.record.proofs.trade.trade_of.Tie as tie
 
 returns : tie.Need-returns
-unfolding values
-returns c =
-    λ i.
+unfolding values size beAt
+returns c = rw (had-none trade (now (c .before .before .args .body)) (c .if1 .taken))
+
+returns-2 : tie.Need-returns-2
+unfolding values size
+returns-2 c =
+    (λ i.
     known trade
     (pos (c .before .before .before .before .before .before .before .be2 .ensures i)
     ∷ kept (c .before .before .before .before .before .before .i64-at .ok) (c .before .before .before .before .before .before .i64-at .ensures) i
@@ -20,18 +29,10 @@ returns c =
     ∷ kept (c .before .before .i64-at5 .ok) (c .before .before .i64-at5 .ensures) i
     ∷ pos (c .before .be1 .ensures i)
     ∷ kept (c .i64-at6 .ok) (c .i64-at6 .ensures) i
-    ∷ [])
+    ∷ []))
+    ∙ numbers-head trade (now (c .before .before .before .before .before .before .before .before .before .before .before .args .body)) 66 refl (omega (arith, c .before .before .before .before .before .before .before .before .before .if1 .left))
 
 pub trade-of-spec : {M : Type 1} → statement M
 trade-of-spec =
-    tie.close
-    (tie.spec
-    (λ c κs. search needs)
-    (λ c κs. search needs)
-    (λ c κs. search needs)
-    (λ c κs. search needs)
-    (λ c κs. search needs)
-    (λ c κs. search needs)
-    (λ c κs. search needs)
-    (λ c κs. search needs)
-    returns)
+    tie.close (tie.spec returns (λ c. search needs) (λ c. search needs) (λ c. search needs) (λ c κs. tt) (λ c κs. tt) (λ c κs. tt) (λ c κs. tt) (λ c κs. tt) (λ c κs. tt) (λ c κs. tt) (λ c κs. tt)
+    returns-2)
