@@ -6,6 +6,7 @@ use crate::ranges::{entry_in, half, int, word, PRICE};
 use std::hint::black_box;
 
 /// What an entry says, by number, with the numbers that go with it.
+#[inline(always)]
 fn told(e: &[u8]) -> (Entry, Option<i64>) {
     let (p, size) = (int(e, 2), int(e, 10));
     let bare = |says, size| Entry { says, characters: half(e, 0), size, ..Entry::default() };
@@ -23,36 +24,43 @@ fn told(e: &[u8]) -> (Entry, Option<i64>) {
     }
 }
 
-/// The entry at a cursor of a snapshot with its price, and the cursor behind it.
+/// The bytes of the entry at a cursor of a snapshot, after 4 and 5, and the cursor behind it.
 #[inline(always)]
-fn step_priced(at: Cursor, kind: u32, s: &[u8]) -> (StepAnswer, Option<i64>) {
-    let none = |answer| (StepAnswer { answer, next: at, ..StepAnswer::default() }, None);
+fn found(at: Cursor, kind: u32, s: &[u8]) -> Result<(&[u8], Cursor), u32> {
     if kind != SNAPSHOT || at.left == 0 {
-        return none(101);
+        return Err(101);
     }
     if s.len() < at.place || s.len() - at.place < 32 {
-        return none(4);
+        return Err(4);
     }
     let e = &s[at.place..at.place + 32];
     let shown = word(e, 28) as usize;
     if s.len() - at.place - 32 < 8 * shown {
-        return none(4);
+        return Err(4);
     }
     if !entry_in(s, at.place) {
-        return none(5);
+        return Err(5);
     }
-    let (entry, price) = told(e);
-    (StepAnswer { answer: 0, entry, next: Cursor { place: at.place + 32 + 8 * shown, left: at.left - 1 } }, price)
+    Ok((e, Cursor { place: at.place + 32 + 8 * shown, left: at.left - 1 }))
 }
 
 #[inline(never)]
 fn step(at: Cursor, kind: u32, s: &[u8]) -> StepAnswer {
-    step_priced(at, kind, s).0
+    match found(at, kind, s) {
+        Ok((e, next)) => StepAnswer { answer: 0, entry: told(e).0, next },
+        Err(answer) => StepAnswer { answer, next: at, ..StepAnswer::default() },
+    }
 }
 
 #[inline(never)]
 fn step_with_price(at: Cursor, kind: u32, s: &[u8]) -> (StepAnswer, Option<i64>) {
-    step_priced(at, kind, s)
+    match found(at, kind, s) {
+        Ok((e, next)) => {
+            let (entry, price) = told(e);
+            (StepAnswer { answer: 0, entry, next }, price)
+        }
+        Err(answer) => (StepAnswer { answer, next: at, ..StepAnswer::default() }, None),
+    }
 }
 
 /// As a C host has it: the price by a second call where the entry says one.
