@@ -67,12 +67,12 @@ static int print_snapshot(size_t offset, const uint8_t *body, size_t length)
     }
 }
 
-static size_t runs(const struct orizhgum_tracker *of)
+static size_t runs(void)
 {
     size_t sum = 0;
 
     for (size_t c = 0; c < ORIZHGUM_CHANNELS; c++) {
-        sum += of->counts[c];
+        sum += tracker.counts[c];
     }
     return sum;
 }
@@ -80,7 +80,7 @@ static size_t runs(const struct orizhgum_tracker *of)
 static void print_request(size_t offset, uint16_t channel)
 {
     uint8_t out[64];
-    struct orizhgum_write_answer request = orizhgum_request(tracker, channel, out, sizeof out);
+    struct orizhgum_write_answer request = orizhgum_request(&tracker, channel, out, sizeof out);
 
     if (request.answer != ORIZHGUM_OK) {
         printf("%zu request for channel %u: %" PRIu32 "\n", offset, (unsigned)channel, request.answer);
@@ -93,46 +93,43 @@ static void print_request(size_t offset, uint16_t channel)
     printf("\n");
 }
 
-/* takes the next tracker, and asks where the arrival opened a run */
-static void arrived(size_t offset, uint16_t channel, int64_t number, const struct orizhgum_arrival_answer *arrival)
+/* tells of an arrival, and asks where it opened a run: there were `before` of them */
+static void arrived(size_t offset, uint16_t channel, int64_t number, uint32_t answer, size_t before)
 {
-    int opened = runs(&arrival->next) > runs(&tracker);
-
-    tracker = arrival->next;
-    if (arrival->answer == ORIZHGUM_LATE || arrival->answer == ORIZHGUM_DUPLICATE) {
+    if (answer == ORIZHGUM_LATE || answer == ORIZHGUM_DUPLICATE) {
         printf("%zu channel %u number %" PRId64 " %s\n", offset, (unsigned)channel, number,
-            arrival->answer == ORIZHGUM_LATE ? "late" : "duplicate");
-    } else if (arrival->answer != ORIZHGUM_OK) {
-        printf("%zu channel %u number %" PRId64 " refused %" PRIu32 "\n", offset, (unsigned)channel, number, arrival->answer);
+            answer == ORIZHGUM_LATE ? "late" : "duplicate");
+    } else if (answer != ORIZHGUM_OK) {
+        printf("%zu channel %u number %" PRId64 " refused %" PRIu32 "\n", offset, (unsigned)channel, number, answer);
     }
-    if (opened) {
+    if (runs() > before) {
         print_request(offset, channel);
     }
 }
 
 static void tick(size_t offset, uint32_t answer, uint16_t channel, int64_t number)
 {
-    struct orizhgum_arrival_answer arrival;
+    size_t before = runs();
 
     if (answer != ORIZHGUM_OK) {
         printf("%zu refused %" PRIu32 "\n", offset, answer);
         return;
     }
-    arrival = orizhgum_tick(tracker, channel, number);
-    arrived(offset, channel, number, &arrival);
+    arrived(offset, channel, number, orizhgum_tick(&tracker, channel, number), before);
 }
 
 static void heartbeat(size_t offset, const uint8_t *body, size_t length)
 {
     struct orizhgum_channel_heartbeat_answer heard = orizhgum_channel_heartbeat(body, length);
-    struct orizhgum_arrival_answer arrival;
+    uint16_t channel = heard.numbers.channel;
+    int64_t last = heard.numbers.last_number;
+    size_t before = runs();
 
     if (heard.answer != ORIZHGUM_OK) {
         printf("%zu refused %" PRIu32 "\n", offset, heard.answer);
         return;
     }
-    arrival = orizhgum_heartbeat(tracker, heard.numbers.channel, heard.numbers.last_number, heard.numbers.end != 0);
-    arrived(offset, heard.numbers.channel, heard.numbers.last_number, &arrival);
+    arrived(offset, channel, last, orizhgum_heartbeat(&tracker, channel, last, heard.numbers.end != 0), before);
 }
 
 static int receive(size_t offset, uint32_t kind, const uint8_t *body, size_t length)

@@ -327,8 +327,8 @@ uint32_t orizhgum_entry_price(uint32_t kind, const uint8_t *body, size_t length,
 
 struct orizhgum_quantity_answer orizhgum_quantity(uint32_t kind, const uint8_t *body, size_t length, uint32_t i, uint32_t j);
 
-/* ---- the tracker: which numbers of up to eight channels never came. Each arrival takes it and gives back the next one.
- * A host that changes it by hand gets 10, or a tracker of its own making, and never anything undefined. */
+/* ---- the tracker: which numbers of up to eight channels never came. An arrival makes it the next one, in place; a refusal
+ * leaves it as it stood. A host that changes it by hand gets 10, or a tracker of its own making, and never anything undefined. */
 
 #define ORIZHGUM_CHANNELS 8
 #define ORIZHGUM_RUNS 32
@@ -349,19 +349,29 @@ struct orizhgum_start_answer {
     struct orizhgum_tracker tracker;
 };
 
-struct orizhgum_arrival_answer {
-    uint32_t answer;
-    struct orizhgum_tracker next;
-};
-
 /* 1 to 8 channel numbers, strictly ascending */
 struct orizhgum_start_answer orizhgum_set_up(const uint16_t *channels, size_t length);
 
+/* what the archive has: the calls below over the arrays of a tracker, none of which overlaps another */
+uint32_t orizhgum_tick_in(size_t count, const uint16_t *numbers, uint64_t *highest, uint8_t *ended, size_t *counts,
+    uint64_t *first, uint64_t *last, uint16_t channel, int64_t number);
+
+uint32_t orizhgum_heartbeat_in(size_t count, const uint16_t *numbers, uint64_t *highest, uint8_t *ended, size_t *counts,
+    uint64_t *first, uint64_t *last, uint16_t channel, int64_t last_number, uint8_t end);
+
 /* 0 where the number is new, ORIZHGUM_LATE where it was missing, ORIZHGUM_DUPLICATE where it had come */
-struct orizhgum_arrival_answer orizhgum_tick(struct orizhgum_tracker tracker, uint16_t channel, int64_t number);
+static inline uint32_t orizhgum_tick(struct orizhgum_tracker *tracker, uint16_t channel, int64_t number)
+{
+    return orizhgum_tick_in(tracker->count, tracker->numbers, tracker->highest, tracker->ended, tracker->counts,
+        tracker->first, tracker->last, channel, number);
+}
 
 /* a channel heartbeat with the channel's last number; end 0 is no, anything else yes; always 0 where it is not refused */
-struct orizhgum_arrival_answer orizhgum_heartbeat(struct orizhgum_tracker tracker, uint16_t channel, int64_t last, uint8_t end);
+static inline uint32_t orizhgum_heartbeat(struct orizhgum_tracker *tracker, uint16_t channel, int64_t last_number, uint8_t end)
+{
+    return orizhgum_heartbeat_in(tracker->count, tracker->numbers, tracker->highest, tracker->ended, tracker->counts,
+        tracker->first, tracker->last, channel, last_number, end);
+}
 
 /* ---- the writer: a frame to the start of out, with texts and groups as bytes in wire layout.
  * A type without texts, or without groups, takes none of them. */
@@ -403,7 +413,16 @@ struct orizhgum_write_answer orizhgum_write_heartbeat(const uint8_t *texts, size
 
 /* ---- the request: a frame of ORIZHGUM_RESEND, 56 bytes, to the start of out, that asks for the first run of a channel, or for its
  * first 200 numbers; ORIZHGUM_NOTHING_MISSING, and every other answer but 0, writes nothing and leaves out as it stood */
-struct orizhgum_write_answer orizhgum_request(struct orizhgum_tracker tracker, uint16_t channel, uint8_t *out, size_t out_length);
+struct orizhgum_write_answer orizhgum_request_in(size_t count, const uint16_t *numbers, const uint64_t *highest,
+    const uint8_t *ended, const size_t *counts, const uint64_t *first, const uint64_t *last, uint16_t channel, uint8_t *out,
+    size_t out_length);
+
+static inline struct orizhgum_write_answer orizhgum_request(const struct orizhgum_tracker *tracker, uint16_t channel,
+    uint8_t *out, size_t out_length)
+{
+    return orizhgum_request_in(tracker->count, tracker->numbers, tracker->highest, tracker->ended, tracker->counts,
+        tracker->first, tracker->last, channel, out, out_length);
+}
 
 #ifdef __cplusplus
 }

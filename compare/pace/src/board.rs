@@ -113,9 +113,9 @@ pub struct Tracker {
 
 #[repr(C)]
 #[derive(Clone, Copy)]
-pub struct ArrivalAnswer {
+pub struct StartAnswer {
     pub answer: u32,
-    pub next: Tracker,
+    pub tracker: Tracker,
 }
 
 mod calls {
@@ -129,9 +129,9 @@ mod calls {
         pub fn orizhgum_cursor(kind: u32, body: *const u8, n: usize) -> Cursor;
         pub fn orizhgum_step(at: Cursor, kind: u32, body: *const u8, n: usize) -> StepAnswer;
         pub fn orizhgum_step_price(at: Cursor, kind: u32, body: *const u8, n: usize, price: *mut i64) -> u32;
-        pub fn orizhgum_set_up(channels: *const u16, n: usize) -> ArrivalAnswer;
-        pub fn orizhgum_tick(tracker: Tracker, channel: u16, number: i64) -> ArrivalAnswer;
-        pub fn orizhgum_request(tracker: Tracker, channel: u16, out: *mut u8, n: usize) -> WriteAnswer;
+        pub fn orizhgum_set_up(channels: *const u16, n: usize) -> StartAnswer;
+        pub fn orizhgum_tick_in(count: usize, numbers: &[u16; 8], highest: &mut [u64; 8], ended: &mut [u8; 8], counts: &mut [usize; 8], first: &mut [u64; 256], last: &mut [u64; 256], channel: u16, number: i64) -> u32;
+        pub fn orizhgum_request_in(count: usize, numbers: &[u16; 8], highest: &[u64; 8], ended: &[u8; 8], counts: &[usize; 8], first: &[u64; 256], last: &[u64; 256], channel: u16, out: *mut u8, n: usize) -> WriteAnswer;
         pub fn orizhgum_write_order(r: Order, t: *const u8, tn: usize, g: *const u8, gn: usize, out: *mut u8, n: usize) -> WriteAnswer;
         pub fn orizhgum_write_trade(r: Trade, t: *const u8, tn: usize, g: *const u8, gn: usize, out: *mut u8, n: usize) -> WriteAnswer;
         pub fn orizhgum_write_snapshot(r: Snapshot, t: *const u8, tn: usize, g: *const u8, gn: usize, out: *mut u8, n: usize) -> WriteAnswer;
@@ -166,17 +166,17 @@ pub fn step_price(at: Cursor, kind: u32, body: &[u8], price: &mut i64) -> u32 {
     unsafe { calls::orizhgum_step_price(at, kind, body.as_ptr(), body.len(), price) }
 }
 
-/// The start answer has the shape of an arrival's.
-pub fn set_up(channels: &[u16]) -> ArrivalAnswer {
+pub fn set_up(channels: &[u16]) -> StartAnswer {
     unsafe { calls::orizhgum_set_up(channels.as_ptr(), channels.len()) }
 }
 
-pub fn tick(tracker: Tracker, channel: u16, number: i64) -> ArrivalAnswer {
-    unsafe { calls::orizhgum_tick(tracker, channel, number) }
+pub fn tick(t: &mut Tracker, channel: u16, number: i64) -> u32 {
+    unsafe { calls::orizhgum_tick_in(t.count, &t.numbers, &mut t.highest, &mut t.ended, &mut t.counts, &mut t.first, &mut t.last, channel, number) }
 }
 
-pub fn request(tracker: Tracker, channel: u16, out: &mut [u8]) -> WriteAnswer {
-    unsafe { calls::orizhgum_request(tracker, channel, out.as_mut_ptr(), out.len()) }
+pub fn request(t: &Tracker, channel: u16, out: &mut [u8]) -> WriteAnswer {
+    let (o, n) = (out.as_mut_ptr(), out.len());
+    unsafe { calls::orizhgum_request_in(t.count, &t.numbers, &t.highest, &t.ended, &t.counts, &t.first, &t.last, channel, o, n) }
 }
 
 pub fn write_order(r: &Order, texts: &[u8], groups: &[u8], out: &mut [u8]) -> WriteAnswer {

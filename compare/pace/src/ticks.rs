@@ -7,15 +7,10 @@ use std::hint::black_box;
 /// The eight channels.
 pub const CHANNELS: [u16; 8] = [2011, 2012, 2013, 2014, 2015, 2016, 2017, 2018];
 
-/// The sum of the answers; each call takes the tracker by value and gives the next one back.
+/// The sum of the answers.
 fn receiver(channels: &[u16], numbers: &[i64]) -> u32 {
-    let mut a = board::set_up(&CHANNELS);
-    let mut sum = a.answer;
-    for (&c, &n) in channels.iter().zip(numbers) {
-        a = board::tick(a.next, c, n);
-        sum += a.answer;
-    }
-    sum
+    let mut t = board::set_up(&CHANNELS).tracker;
+    channels.iter().zip(numbers).map(|(&c, &n)| board::tick(&mut t, c, n)).sum()
 }
 
 fn rust(channels: &[u16], numbers: &[i64]) -> u32 {

@@ -170,13 +170,6 @@ pub struct StartAnswer {
 }
 
 #[repr(C)]
-#[derive(Clone, Copy)]
-pub struct ArrivalAnswer {
-    pub answer: u32,
-    pub next: Tracker,
-}
-
-#[repr(C)]
 #[derive(Clone, Copy, Debug)]
 pub struct WriteAnswer {
     pub answer: u32,
@@ -261,7 +254,6 @@ named! {
     QuantityAnswer = "struct orizhgum_quantity_answer",
     Tracker = "struct orizhgum_tracker",
     StartAnswer = "struct orizhgum_start_answer",
-    ArrivalAnswer = "struct orizhgum_arrival_answer",
     WriteAnswer = "struct orizhgum_write_answer",
 }
 
@@ -326,7 +318,6 @@ pub fn structs() -> String {
         QuantityAnswer = QuantityAnswer { answer, quantity }
         Tracker = Tracker { count, numbers, highest, ended, counts, first, last }
         StartAnswer = StartAnswer { answer, tracker }
-        ArrivalAnswer = ArrivalAnswer { answer, next }
         WriteAnswer = WriteAnswer { answer, written }
     }
 }
@@ -367,9 +358,33 @@ macro_rules! writers {
     };
 }
 
+/// Declares the calls over the arrays of a tracker, each with what follows
+/// these and what C calls it over the tracker.
+macro_rules! trackers {
+    ($written:ident: $(fn $name:ident = $whole:literal (*$lends:ident, $($taken:ident: $type:ty),*) -> $answer:ty;)*) => {
+        calls! {
+            arrays:
+            $(fn $name(
+                count: usize,
+                numbers: *const u16,
+                highest: *$lends u64,
+                ended: *$lends u8,
+                counts: *$lends usize,
+                first: *$lends u64,
+                last: *$lends u64,
+                $($taken: $type),*
+            ) -> $answer;)*
+        }
+
+        fn $written() -> String {
+            [arrays(), $(prototype($whole, <$answer>::name(), &[<*$lends Tracker>::name(), $(<$type>::name()),*])),*].concat()
+        }
+    };
+}
+
 /// Every call as C declares it.
 pub fn prototypes() -> String {
-    reading() + &writing()
+    reading() + &tracking() + &writing()
 }
 
 calls! {
@@ -395,9 +410,13 @@ calls! {
     fn orizhgum_quantity(kind: u32, body: *const u8, length: usize, i: u32, j: u32) -> QuantityAnswer;
 
     fn orizhgum_set_up(channels: *const u16, length: usize) -> StartAnswer;
-    fn orizhgum_tick(tracker: Tracker, channel: u16, number: i64) -> ArrivalAnswer;
-    fn orizhgum_heartbeat(tracker: Tracker, channel: u16, last: i64, end: u8) -> ArrivalAnswer;
-    fn orizhgum_request(tracker: Tracker, channel: u16, out: *mut u8, out_length: usize) -> WriteAnswer;
+}
+
+trackers! {
+    tracking:
+    fn orizhgum_tick_in = "orizhgum_tick" (*mut, channel: u16, number: i64) -> u32;
+    fn orizhgum_heartbeat_in = "orizhgum_heartbeat" (*mut, channel: u16, last_number: i64, end: u8) -> u32;
+    fn orizhgum_request_in = "orizhgum_request" (*const, channel: u16, out: *mut u8, out_length: usize) -> WriteAnswer;
 }
 
 writers! {

@@ -205,6 +205,24 @@ fn group(kind: u32, told: &GroupAnswer) -> Option<Group> {
     }
 }
 
+/// A call over the arrays of a tracker, lent as pointers of one kind.
+macro_rules! lend {
+    ($call:ident, $tracker:ident, $lends:ident, $($taken:expr),*) => {
+        unsafe {
+            $call(
+                $tracker.count,
+                $tracker.numbers.as_ptr(),
+                $tracker.highest.$lends(),
+                $tracker.ended.$lends(),
+                $tracker.counts.$lends(),
+                $tracker.first.$lends(),
+                $tracker.last.$lends(),
+                $($taken),*
+            )
+        }
+    };
+}
+
 impl Receiver for Board {
     fn frame(&self, bytes: &[u8]) -> FrameAnswer {
         let told = unsafe { orizhgum_frame(lent(bytes), bytes.len()) };
@@ -323,34 +341,28 @@ impl Receiver for Board {
     }
 
     fn tick(&self, tracker: &Tracker, channel: u16, number: i64) -> ArrivalAnswer {
-        let told = unsafe { orizhgum_tick(*tracker, channel, number) };
-        let verdict = match told.answer {
+        let mut next = *tracker;
+        let verdict = match lend!(orizhgum_tick_in, next, as_mut_ptr, channel, number) {
             0 => Verdict::New,
             LATE => Verdict::Late,
             DUPLICATE => Verdict::Duplicate,
             answer => Verdict::Refused(answer),
         };
-        ArrivalAnswer {
-            verdict,
-            next: told.next,
-        }
+        ArrivalAnswer { verdict, next }
     }
 
     fn heartbeat(&self, tracker: &Tracker, channel: u16, last: i64, end: u8) -> ArrivalAnswer {
-        let told = unsafe { orizhgum_heartbeat(*tracker, channel, last, end) };
-        let verdict = match told.answer {
+        let mut next = *tracker;
+        let verdict = match lend!(orizhgum_heartbeat_in, next, as_mut_ptr, channel, last, end) {
             0 => Verdict::Heard,
             answer => Verdict::Refused(answer),
         };
-        ArrivalAnswer {
-            verdict,
-            next: told.next,
-        }
+        ArrivalAnswer { verdict, next }
     }
 
     fn request(&self, tracker: &Tracker, channel: u16, output: &mut [u8]) -> RequestAnswer {
         let (out, length) = (lent_out(output), output.len());
-        let told = unsafe { orizhgum_request(*tracker, channel, out, length) };
+        let told = lend!(orizhgum_request_in, tracker, as_ptr, channel, out, length);
         match told.answer {
             NOTHING_MISSING if told.written == 0 => RequestAnswer::NothingMissing,
             _ => match written(told) {

@@ -1,3 +1,4 @@
 pub mod Answered
 pub mod Shown
+pub mod Lent
 pub mod Unique

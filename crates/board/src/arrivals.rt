@@ -3,10 +3,11 @@ ghost use mathlib.Core.Path.{_≡_};
 ghost use Rattle.gaps.specs.Channel.{tick, heartbeat};
 ghost use Rattle.tracker.specs.SetUp.{setUp};
 ghost use Rattle.tracker.specs.Arrived.{on, arrived, saidOf};
-ghost use Rattle.board.specs.Arrivals.{saidNumber, startAnswer, arrivalAnswer, ending};
+ghost use Rattle.board.specs.Arrivals.{saidNumber, startAnswer, ending, heldIn, left, arrivalAnswer};
 use crate::answers::DUPLICATE;
 use crate::answers::LATE;
 use crate::answers::PLAIN;
+use seats::Seat;
 use tracker::Start;
 use tracker::Tracker;
 use tracker::Verdict;
@@ -15,12 +16,6 @@ use tracker::Verdict;
 pub struct StartAnswer {
     pub answer: u32,
     pub tracker: Tracker,
-}
-
-#[repr(C)]
-pub struct ArrivalAnswer {
-    pub answer: u32,
-    pub next: Tracker,
 }
 
 // The number of an arrival's answer.
@@ -59,35 +54,95 @@ pub extern "C" fn orizhgum_set_up(channels: &[u16]) -> StartAnswer
     }
 }
 
-// A tick on a channel; a refusal gives the tracker back as it stood.
-#[no_mangle]
-pub extern "C" fn orizhgum_tick(tracker: Tracker, channel: u16, number: i64) -> ArrivalAnswer
-    ensures { λ r. ⌜ r ≡ arrivalAnswer (arrived tracker (on channel (tick number))) ⌝ }
+// The tracker that lent arrays hold.
+pub(crate) fn held<'a>(
+    count: usize,
+    numbers: &'a [u16; Tracker::CHANNELS],
+    highest: &'a [u64; Tracker::CHANNELS],
+    ended: &'a [u8; Tracker::CHANNELS],
+    counts: &'a [usize; Tracker::CHANNELS],
+    first: &'a [u64; Seat::PLACES],
+    last: &'a [u64; Seat::PLACES],
+) -> Tracker
+    ensures { λ r. ⌜ r ≡ heldIn count (now (numbers .entry)) (now (highest .entry)) (now (ended .entry)) (now (counts .entry)) (now (first .entry)) (now (last .entry)) ⌝ }
 {
-    let r = tracker.tick(channel, number);
-    let verdict = r.verdict;
-    let next = r.next;
-    ArrivalAnswer {
-        answer: verdict_number(verdict),
-        next,
+    Tracker {
+        count: count,
+        numbers: *numbers,
+        highest: *highest,
+        ended: *ended,
+        counts: *counts,
+        first: *first,
+        last: *last,
     }
 }
 
-// A channel heartbeat; a refusal gives the tracker back as it stood.
-#[no_mangle]
-pub extern "C" fn orizhgum_heartbeat(
-    tracker: Tracker,
-    channel: u16,
-    last: i64,
-    end: u8,
-) -> ArrivalAnswer
-    ensures { λ r. ⌜ r ≡ arrivalAnswer (arrived tracker (on channel (heartbeat last (ending end)))) ⌝ }
+// The arrays of the next tracker, but for those that no arrival changes.
+fn lay(
+    next: Tracker,
+    highest: &mut [u64; Tracker::CHANNELS],
+    ended: &mut [u8; Tracker::CHANNELS],
+    counts: &mut [usize; Tracker::CHANNELS],
+    first: &mut [u64; Seat::PLACES],
+    last: &mut [u64; Seat::PLACES],
+)
+    ensures { λ _. ⌜ (now (highest .exit) ≡ next .highest) × ((now (ended .exit) ≡ next .ended) × ((now (counts .exit) ≡ next .counts) × ((now (first .exit) ≡ next .first) × (now (last .exit) ≡ next .last)))) ⌝ }
 {
-    let r = tracker.heartbeat(channel, last, end != 0);
+    let c = next.highest;
+    *highest = c;
+    let c = next.ended;
+    *ended = c;
+    let c = next.counts;
+    *counts = c;
+    let c = next.first;
+    *first = c;
+    let c = next.last;
+    *last = c;
+}
+
+// A tick on a channel of the tracker that the arrays hold, which become those of the next one; a refusal leaves them as they stood.
+#[no_mangle]
+pub extern "C" fn orizhgum_tick_in(
+    count: usize,
+    numbers: &[u16; Tracker::CHANNELS],
+    highest: &mut [u64; Tracker::CHANNELS],
+    ended: &mut [u8; Tracker::CHANNELS],
+    counts: &mut [usize; Tracker::CHANNELS],
+    first: &mut [u64; Seat::PLACES],
+    last: &mut [u64; Seat::PLACES],
+    channel: u16,
+    number: i64,
+) -> u32
+    ensures { λ r. ⌜ left r count (now (numbers .entry)) (now (highest .exit)) (now (ended .exit)) (now (counts .exit)) (now (first .exit)) (now (last .exit)) ≡ arrivalAnswer (arrived (heldIn count (now (numbers .entry)) (now (highest .entry)) (now (ended .entry)) (now (counts .entry)) (now (first .entry)) (now (last .entry))) (on channel (tick number))) ⌝ }
+{
+    let t = held(count, numbers, highest, ended, counts, first, last);
+    let r = t.tick(channel, number);
     let verdict = r.verdict;
     let next = r.next;
-    ArrivalAnswer {
-        answer: verdict_number(verdict),
-        next,
-    }
+    lay(next, highest, ended, counts, first, last);
+    verdict_number(verdict)
+}
+
+// A channel heartbeat, in the same way; end 0 is no, anything else yes.
+#[no_mangle]
+pub extern "C" fn orizhgum_heartbeat_in(
+    count: usize,
+    numbers: &[u16; Tracker::CHANNELS],
+    highest: &mut [u64; Tracker::CHANNELS],
+    ended: &mut [u8; Tracker::CHANNELS],
+    counts: &mut [usize; Tracker::CHANNELS],
+    first: &mut [u64; Seat::PLACES],
+    last: &mut [u64; Seat::PLACES],
+    channel: u16,
+    last_number: i64,
+    end: u8,
+) -> u32
+    ensures { λ r. ⌜ left r count (now (numbers .entry)) (now (highest .exit)) (now (ended .exit)) (now (counts .exit)) (now (first .exit)) (now (last .exit)) ≡ arrivalAnswer (arrived (heldIn count (now (numbers .entry)) (now (highest .entry)) (now (ended .entry)) (now (counts .entry)) (now (first .entry)) (now (last .entry))) (on channel (heartbeat «last_number» (ending end)))) ⌝ }
+{
+    let t = held(count, numbers, highest, ended, counts, first, last);
+    let r = t.heartbeat(channel, last_number, end != 0);
+    let verdict = r.verdict;
+    let next = r.next;
+    lay(next, highest, ended, counts, first, last);
+    verdict_number(verdict)
 }
