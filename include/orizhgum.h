@@ -4,7 +4,8 @@
  * the refusals, 100 and up the other answers. On a refusal every number of the answer is 0, and what was lent is as it stood.
  *
  * The host's part, which no proof covers:
- * - a pointer with a length refers to as many elements as the length says; NULL goes with length 0 only;
+ * - a pointer with a length refers to as many elements as the length says; NULL goes with length 0 only; a pointer to an
+ *   array of a tracker refers to as many as the struct has;
  * - an output, and a lent int64_t, is the host's to write, and overlaps none of the inputs of the same call. */
 #ifndef ORIZHGUM_H
 #define ORIZHGUM_H

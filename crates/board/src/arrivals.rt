@@ -1,4 +1,4 @@
-// The tracker: set up, tick and channel heartbeat, each of which gives the next tracker back with its answer.
+// The tracker: set up, and the tick and channel heartbeat over its arrays, which become those of the next one.
 ghost use mathlib.Core.Path.{_≡_};
 ghost use Rattle.gaps.specs.Channel.{tick, heartbeat};
 ghost use Rattle.tracker.specs.SetUp.{setUp};
