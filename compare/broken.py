@@ -7,7 +7,6 @@ A line for each edit says on which call the comparison differed first.
     python3 compare/broken.py [NAME/EDIT...]
 """
 
-import platform
 import re
 import shutil
 import subprocess
@@ -16,8 +15,6 @@ import tempfile
 from pathlib import Path
 
 TOP = Path(__file__).resolve().parent.parent
-KIT = Path(shutil.which("rt")).resolve().parent.parent
-TOOLS = KIT / "on" / platform.machine()
 RUN = ["200000", "20170401"]
 
 
@@ -46,12 +43,7 @@ def edited(folder, edit):
 
 def archive(scratch, sources):
     """The archive of these sources, unproved."""
-    words = [TOOLS / "bin/rattle-cases", "--toolchain", TOOLS / "toolchain"]
-    words += ["--staticlib", scratch / "libboard.a", sources / "board/src/lib.rt", "--crate-name", "board"]
-    words += ["--lib", f"std={KIT}/libs/std/src/lib.rt"]
-    for name in crates()[:-1]:
-        words += ["--lib", f"{name}={sources}/{name}/src/lib.rt"]
-    subprocess.run(words, check=True)
+    subprocess.run([TOP / ".ci/unproved", sources, "board", scratch / "libboard.a"], check=True)
 
 
 def rustc(*words):

@@ -7,19 +7,27 @@ use compare::compare::compare;
 use compare::inputs::Inputs;
 use std::io::Write;
 
-const INPUTS: u64 = 1_000_000;
 const SEED: u64 = 20_170_401;
 const LEAST: u64 = 100;
+
+/// How many inputs are compared: what `INPUTS` says, or a million.
+fn inputs() -> u64 {
+    match std::env::var("INPUTS") {
+        Ok(number) => number.parse().expect("INPUTS is a number"),
+        Err(_) => 1_000_000,
+    }
+}
 
 #[test]
 fn product_and_second_program_agree() {
     let second = second();
-    let table = match compare(&Board, &second, &second.rules, INPUTS, SEED) {
+    let inputs = inputs();
+    let table = match compare(&Board, &second, &second.rules, inputs, SEED) {
         Ok(table) => table,
         Err(difference) => panic!("{difference}"),
     };
     // Not by `println`, of which a passing test shows nothing.
-    let told = format!("\n{INPUTS} inputs of seed {SEED}\n\n{table}");
+    let told = format!("\n{inputs} inputs of seed {SEED}\n\n{table}");
     std::io::stdout()
         .write_all(told.as_bytes())
         .expect("an output");
