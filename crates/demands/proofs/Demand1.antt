@@ -42,8 +42,9 @@ use Rattle.tracker.specs.Request as request
 use Rattle.tracker.specs.Request.{requestLength, fitting, answerOf}
 use Rattle.tracker.proofs.Fitting.{request-length}
 use Rattle.demands.specs.Play.{recordOf}
-use Rattle.demands.specs.Rules.{_if_, Judged, success, later, L, bodyRules, behindOf, fieldsEnd, groupsIn, entriesIn, shownIn, leftIn, EntryLacks, EntryStrays, Falls, setUpRules, Keeps, NotIn, Low, arrivalRules, requestRules}
-use Rattle.demands.specs.Demand1.{FrameReader, FrameRecordReader, RecordReader, Judge, GroupReader, EntryReader, QuantityReader, Stepper, Writer, SetUp, ZeroBreaks, Arrival, Request}
+use Rattle.demands.specs.Rules.{_if_, Judged, success, later, OrNone, Kept, Every}
+use Rattle.demands.specs.Conditions.{L, behindOf, fieldsEnd, groupsIn, entriesIn, shownIn, leftIn, groupCount, entryCount, shownCount, entriesLeft, EntryLacks, EntryStrays, Falls, Keeps, NotIn, Low}
+use Rattle.demands.specs.Demand1.{frameRules, bodyRules, readerRules, stepRules, writerRules, setUpRules, arrivalRules, requestRules, Demand1}
 use Rattle.demands.proofs.Rules.{above, answered, tested, Alike, both-accepted, both-refused, alike, in-turn, by-reading, by-body, by-judging}
 use Rattle.demands.proofs.Keeps.{keeps-yes, keeps-sound}
 use Rattle.demands.proofs.Out.{only-out, only-in}
@@ -51,8 +52,8 @@ use Rattle.demands.proofs.Played.{place-number, place-found}
 
 -- ---- the reader
 
-pub frame-reader : FrameReader
-frame-reader s r e = by-reading s _ (frame-laws.reading (sym e))
+by-frame : (s : List ℕ) → Judged (frameRules s) (framing headerWidth bodyLimit s)
+by-frame s = by-reading s _ (frame-laws.view headerWidth bodyLimit s)
 
 -- what follows a body that was judged
 once-alike : {A : Type 0} (v : Answer Unit) (a : A) (t : List ℕ) → Alike v (onceAccepted v a t .answer)
@@ -69,15 +70,9 @@ unfolding record-of.readAs
 read-alike (listed m) type b = once-alike (judgedAs (listed m) b) _ _
 read-alike unlisted type b = both-accepted
 
-pub by-type : (type : ℕ) (b : List ℕ) → Judged (bodyRules type b) (reading type b .answer)
+by-type : (type : ℕ) (b : List ℕ) → Judged (bodyRules type b) (reading type b .answer)
 unfolding reading
 by-type type b = alike (read-alike (named type) type b) (by-body (named type) b)
-
-pub record-reader : RecordReader
-record-reader type b r e = answered (ap (λ (t : Told record-of.Reading). t .answer) e) (by-type type b)
-
-pub judge : Judge
-judge type b r e = answered e (by-body (named type) b)
 
 refused-on : (s : List ℕ) (n : ℕ) (vs : List ℕ) → framing headerWidth bodyLimit s ≡ refused n vs → frameReading s .answer ≡ refused n vs
 unfolding frameReading
@@ -91,10 +86,8 @@ accepted-on s f e =
     let a = frame-laws.known-of headerWidth bodyLimit s f e in
     rw (e, a .kind, a .len) (by-type (beAt s 0 4) (part 8 (8 + L s) s))
 
-pub frame-record-reader : FrameRecordReader
-frame-record-reader s r e =
-    answered (ap (λ (t : Told record-of.Reading). t .answer) e)
-    (in-turn (frameReading s .answer) (by-reading s _ (frame-laws.view headerWidth bodyLimit s)) (refused-on s) (accepted-on s))
+by-bytes : (s : List ℕ) → Judged (readerRules s) (frameReading s .answer)
+by-bytes s = in-turn (frameReading s .answer) (by-frame s) (refused-on s) (accepted-on s)
 
 -- ---- by position
 
@@ -137,13 +130,12 @@ group-none (listed m) b i x e =
     rw a at (group-in (behind m) (start m) b i)
 group-none unlisted b i x e = (λ f. omega arith, λ h. cc)
 
-pub group-reader : GroupReader
+group-asked : (type : ℕ) (b : List ℕ) (i : ℕ) → OrNone (bodyRules type b) noSuchEntry (groupCount type b ≤ i) (groupAsked type b i .answer)
 unfolding groupAsked
-group-reader type b i r e =
-    let a = ap (λ (t : Told (Asked (List ℤ))). t .answer) e in
+group-asked type b i =
     record {
-      judged = answered a (alike (group-alike (named type) b i) (by-body (named type) b));
-      none = λ x f. group-none (named type) b i x (sym a ∙ f);
+      judged = alike (group-alike (named type) b i) (by-body (named type) b);
+      none-when = λ x f. group-none (named type) b i x f;
     }
 
 -- entries
@@ -156,12 +148,12 @@ entry-of : (l : Listed) (b : List ℕ) (i : ℕ) → (entryOf l b i ≡ noSuchEn
 entry-of (listed m) b i = entry-in (behind m) (start m) b i
 entry-of unlisted b i = none-there i
 
-pub entry-reader : EntryReader
+entry-asked : (type : ℕ) (b : List ℕ) (i : ℕ) → OrNone (bodyRules type b) noSuchEntry (entryCount type b ≤ i) (entryAsked type b i)
 unfolding entryAsked
-entry-reader type b i r e =
+entry-asked type b i =
     record {
-      judged = answered e (alike (then-alike (judging type b) (entryOf (named type) b i)) (by-body (named type) b));
-      none = λ x f. rw (then-value (judging type b) (entryOf (named type) b i) x (sym e ∙ f)) at (entry-of (named type) b i);
+      judged = alike (then-alike (judging type b) (entryOf (named type) b i)) (by-body (named type) b);
+      none-when = λ x f. rw (then-value (judging type b) (entryOf (named type) b i) x f) at (entry-of (named type) b i);
     }
 
 -- shown quantities
@@ -184,12 +176,14 @@ quantity-of :
 quantity-of (listed m) b i j = quantity-in (behind m) (start m) b i j
 quantity-of unlisted b i j = quantity-in nothing 0 b i j
 
-pub quantity-reader : QuantityReader
+quantity-asked :
+    (type : ℕ) (b : List ℕ) (i j : ℕ) →
+    OrNone (bodyRules type b) noSuchEntry ((entryCount type b ≤ i) ⊎ (shownCount type b i ≤ j)) (quantityAsked type b i j)
 unfolding quantityAsked
-quantity-reader type b i j r e =
+quantity-asked type b i j =
     record {
-      judged = answered e (alike (then-alike (judging type b) (quantityOf (named type) b i j)) (by-body (named type) b));
-      none = λ x f. rw (then-value (judging type b) (quantityOf (named type) b i j) x (sym e ∙ f)) at (quantity-of (named type) b i j);
+      judged = alike (then-alike (judging type b) (quantityOf (named type) b i j)) (by-body (named type) b);
+      none-when = λ x f. rw (then-value (judging type b) (quantityOf (named type) b i j) x f) at (quantity-of (named type) b i j);
     }
 
 -- a step
@@ -239,12 +233,11 @@ unfolding stepOf
 step-of (listed m) b c = refl
 step-of unlisted b c = refl
 
-pub stepper : Stepper
-stepper type b c r e =
-    let f = e ∙ step-of (named type) b (paperCursor c) in
+stepped : (type : ℕ) (b : List ℕ) (c : At) → OrNone (stepRules type b c) noSuchEntry (entriesLeft type c ≡ 0) (stepOf (named type) b c)
+stepped type b c =
     record {
-      judged = answered f (step-judged (behindOf (named type)) b (paperCursor c));
-      none = λ x g. step-none (behindOf (named type)) b (paperCursor c) x (sym f ∙ g);
+      judged = answered (step-of (named type) b c) (step-judged (behindOf (named type)) b c);
+      none-when = λ x f. step-none (behindOf (named type)) b c x (sym (step-of (named type) b c) ∙ f);
     }
 
 -- ---- the writer
@@ -253,12 +246,12 @@ written-same :
     (x : record-of.Reading) (ts gs out : List ℕ) (a : Answer ℕ) (n : ℕ) (vs : List ℕ) → a ≡ refused n vs → outputOf a x ts gs out ≡ out
 written-same x ts gs out a n vs e = rw e
 
-pub writer : Writer
+written : (x : record-of.Reading) (ts gs out : List ℕ) → Kept (writerRules x ts gs (length out)) (answering x ts gs out) out (leaving x ts gs out)
 unfolding answering leaving
-writer r ts gs out after a e l =
+written x ts gs out =
     record {
-      judged = answered e (by-judging (paperRecord r) ts gs (length out));
-      same = λ n vs f. l ∙ written-same (paperRecord r) ts gs out (writes (paperRecord r) ts gs (length out)) n vs (sym e ∙ f);
+      judged = by-judging x ts gs (length out);
+      same = λ n vs f. written-same x ts gs out (writes x ts gs (length out)) n vs f;
     }
 
 -- ---- the tracker
@@ -314,17 +307,13 @@ tests-judged numbers =
     (λ f.
     tested (not (ascends 0 numbers)) (λ g. falls-by numbers (not-true _ g)) (λ g. rises-by numbers (not-false _ g)) (λ g. success)))
 
-pub set-up : SetUp
+started : (numbers : List ℕ) → Kept (setUpRules numbers) (setUp numbers .said) (blankOf []) (setUp numbers .tracker)
 unfolding setUp
-set-up numbers r e =
-    let said = ap (λ (o : Ready). o .said) e in
+started numbers =
     record {
-      judged = answered said (alike (given-alike (tests numbers)) (tests-judged numbers));
-      same = λ n vs f. ap (λ (o : Ready). o .tracker) e ∙ given-same (tests numbers) n vs (sym said ∙ f);
+      judged = alike (given-alike (tests numbers)) (tests-judged numbers);
+      same = λ n vs f. given-same (tests numbers) n vs f;
     }
-
-pub zero-breaks : ZeroBreaks
-zero-breaks k = omega (arith, k .one)
 
 breaks : (t : Tracker) → wellFormed t ≡ false → Keeps t → ⊥
 breaks t e k = true≢false (sym (keeps-sound t k) ∙ e)
@@ -373,13 +362,12 @@ steps-judged t k e =
     tested (tooLow e) (low-yes e) (low-no e)
     (λ c. tested (ltb runLimit (length runs)) (ltb-true runLimit (length runs)) (λ d. above (ltb-false runLimit (length runs) d)) (λ d. success))))
 
-pub arrival : Arrival
+arrives : (t : Tracker) (k : ℕ) (e : Event) → Kept (arrivalRules t k e) (arrived t (on k e) .said) t (arrived t (on k e) .next)
 unfolding arrived
-arrival t k e r f =
-    let said = ap (λ (o : Outcome). o .said) f in
+arrives t k e =
     record {
-      judged = answered said (alike (settled-alike t (place-of t k) (steps t k e)) (steps-judged t k e));
-      same = λ n vs g. ap (λ (o : Outcome). o .next) f ∙ settled-same t (place-of t k) (steps t k e) n vs (sym said ∙ g);
+      judged = alike (settled-alike t (place-of t k) (steps t k e)) (steps-judged t k e);
+      same = λ n vs f. settled-same t (place-of t k) (steps t k e) n vs f;
     }
 
 -- ---- the request
@@ -460,14 +448,45 @@ module _ (k : ℕ) (out : List ℕ) where
   unwritten (accepted nothingMissing) e = refl
   unwritten (refused n vs) e = refl
 
-pub requests : Request
-unfolding request.answering request.leaving request.judging
-requests t k out after a e l =
+module _ (t : Tracker) (k : ℕ) (out : List ℕ) where
+  asked-by : Judged (requestRules t k (length out)) (request.answering t k out)
+  unfolding request.answering
+  asked-by = alike (answer-alike (request.judging t k (length out))) (asks-judged t k (length out))
+
+  asked : Kept (requestRules t k (length out)) (request.answering t k out) out (request.leaving t k out)
+  unfolding request.answering request.leaving
+  asked = record { judged = asked-by; same = λ n vs f. unasked k out (request.judging t k (length out)) n vs f }
+
+  asked-or-none : OrNone (requestRules t k (length out)) request.nothing (recordOf t k .runs ≡ []) (request.answering t k out)
+  unfolding request.answering request.judging
+  asked-or-none = record { judged = asked-by; none-when = λ x f. none-first x (length out) t k (firstRun t k) refl f }
+
+  nothing-written : request.answering t k out ≡ accepted request.nothing → request.leaving t k out ≡ out
+  unfolding request.answering request.leaving
+  nothing-written f = unwritten k out (request.judging t k (length out)) f
+
+-- ---- the demand
+
+-- what holds of a definition holds of every answer that meets it
+every : {R A : Type 0} (paper : R → A) (definition : A) (says : A → Type 1) → says definition → Every paper definition says
+every paper definition says h r e = subst says (sym e) h
+
+pub demand1 : Demand1
+demand1 =
     record {
-      kept = record {
-        judged = answered e (alike (answer-alike (request.judging t k (length out))) (asks-judged t k (length out)));
-        same = λ n vs f. l ∙ unasked k out (request.judging t k (length out)) n vs (sym e ∙ f);
-      };
-      none = λ x f. none-first x (length out) t k (firstRun t k) refl (sym e ∙ f);
-      unwritten = λ f. l ∙ unwritten k out (request.judging t k (length out)) (sym e ∙ f);
+      frame-read = λ s r e. rw e (by-frame s);
+      read-frame = λ s. every _ _ (λ (a : Told record-of.Reading). Judged (readerRules s) (a .answer)) (by-bytes s);
+      read = λ type b. every _ _ (λ (a : Told record-of.Reading). Judged (bodyRules type b) (a .answer)) (by-type type b);
+      judge = λ type b r e. rw e (by-body (named type) b);
+      group-of = λ type b i. every _ _ (λ (a : Told (Asked (List ℤ))). OrNone (bodyRules type b) noSuchEntry (groupCount type b ≤ i) (a .answer)) (group-asked type b i);
+      entry-of = λ type b i r e. rw e (entry-asked type b i);
+      quantity-of = λ type b i j r e. rw e (quantity-asked type b i j);
+      step = λ type b c r e. rw e (stepped type b (paperCursor c));
+      write = λ x ts gs out r e. rw e (written (paperRecord x) ts gs out);
+      set-up = λ numbers. every _ _ (λ (a : Ready). Kept (setUpRules numbers) (a .said) (blankOf []) (a .tracker)) (started numbers);
+      zero-breaks = λ k. omega (arith, k .one);
+      arrival = λ t k e. every _ _ (λ (a : Outcome). Kept (arrivalRules t k e) (a .said) t (a .next)) (arrives t k e);
+      request = λ t k out r e. rw e (asked t k out);
+      none-missing = λ t k out r e. rw e (asked-or-none t k out);
+      none-written = nothing-written;
     }

@@ -25,16 +25,16 @@ use Rattle.writer.proofs.Judging.{known-of}
 use Rattle.writer.proofs.Round.{length-encode}
 use Rattle.demands.specs.Demand2.{Reader, Holds, frame-first, as-it-stood, Writer, Output, Held, Reads, ReadsBack, SameBytes}
 use Rattle.demands.proofs.Rules.{accepted-where}
-use Rattle.demands.proofs.Demand1.{frame-record-reader, writer as written}
+use Rattle.demands.proofs.Demand1.{demand1}
 use Rattle.demands.proofs.Back.{back-known, judged-again, bytes-again}
 
 -- ---- acceptance
 
 pub reader : Reader
-reader s x e = accepted-where (frame-record-reader s x e)
+reader s x e = accepted-where (demand1 .read-frame s x e)
 
 pub writer : Writer
-writer r ts gs out after a c = accepted-where (written r ts gs out after a (c .answers) (c .leaves) .judged)
+writer r ts gs out after a c = accepted-where (demand1 .write r ts gs out a (c .answers) .judged)
 
 -- ---- the output
 length-frame : (t : ℕ) (b : List ℕ) → length (frameOf t b) ≡ 12 + length b

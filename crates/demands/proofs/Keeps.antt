@@ -18,7 +18,7 @@ use Rattle.seats.specs.Places.{span}
 use Rattle.tracker.proofs.Seated.{well-row}
 use Rattle.seats.specs.Rules.{allZero, soundRow, soundRows, marks, blank, sound}
 use Rattle.tracker.specs.Rules.{wellFormed}
-use Rattle.demands.specs.Rules.{firstOf, lastOf, Keeps}
+use Rattle.demands.specs.Conditions.{firstOf, lastOf, Keeps}
 
 -- ---- places that are zero
 

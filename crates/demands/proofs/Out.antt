@@ -13,8 +13,8 @@ use Rattle.layout.specs.Layout.{Message, fields, Group, ranges}
 use Rattle.layout.specs.Group.{shown, shownPlace, next, place, quantities, groupRanges, group, start, count, inRange}
 use Rattle.layout.proofs.Walk.{and-both}
 use Rattle.writer.specs.Body.{bits, first, numbersBehind, stated, numbersIn, allIn}
-use Rattle.demands.specs.Rules as out
-use Rattle.demands.specs.Rules.{FieldOut, QuantityOut, GroupOut, SomeGroupOut, NumberOut}
+use Rattle.demands.specs.Conditions as out
+use Rattle.demands.specs.Conditions.{FieldOut, QuantityOut, GroupOut, SomeGroupOut, NumberOut}
 
 -- where both of two tests don't pass, one of them fails
 either : (a b : Bool) → a && b ≡ false → (a ≡ false) ⊎ (b ≡ false)

@@ -26,7 +26,9 @@ use Rattle.record.specs.Record.{known, unknown}
 use Rattle.writer.specs.Body.{bodyLength, textSize, stated, even, exact, allIn}
 use Rattle.writer.specs.Write as writer
 use Rattle.writer.specs.Write.{frameLength, judging}
-use Rattle.demands.specs.Rules.{Rule, _if_, Judged, success, here, later, L, frameRules, Lacks, Strays, Exactly, writerRules}
+use Rattle.demands.specs.Rules.{Rule, _if_, Judged, success, here, later}
+use Rattle.demands.specs.Conditions.{L, Lacks, Strays, Exactly}
+use Rattle.demands.specs.Demand1.{frameRules, writerRules}
 use Rattle.demands.proofs.Out.{strays, keeps, strays-written, keeps-written}
 use Rattle.demands.specs.Demand2.{Accepted, with-value, NoneOf}
 

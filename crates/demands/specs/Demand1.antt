@@ -1,132 +1,112 @@
 -- Demand 1: "Every public call ends and does nothing undefined for every input. Bad frames, channels, numbers and short buffers get
 -- the refusal that document 01 names, in its order, and a refusal leaves the lent output and the gap record as they stood."
--- That every call ends and does nothing undefined is what the check of each crate proves. Here, for each call and for every answer of
--- the code that meets its promise: the answer is the first refusal of specs/Rules whose condition holds, and a success where none
--- does; and a refusal leaves things as they stood.
+-- That every call ends and does nothing undefined is what the check of each crate proves. Here: for each call document 01's refusals in
+-- its order, each with its condition (specs/Conditions); and of every answer of the code that meets its promise, that it is the first
+-- refusal whose condition holds, and a success where none does, and that a refusal leaves things as they stood (specs/Rules).
 -- Assumes nothing.
-use Prim.Native.Nat.{ℕ, _≤_}
+use Prim.Native.Nat.{ℕ, _+_, _≤_, _<_}
 use mathlib.Core.Path.{_≡_}
-use mathlib.Core.Logic.{_↔_, _⊎_}
-use mathlib.Core.List.{List, []}
+use mathlib.Core.Logic.{_⊎_}
+use mathlib.Core.List.{List, [], _∷_, _++_}
 use lib.ListN.{length}
-use Rattle.wire.specs.Answer.{Answer, accepted, refused}
+use Rattle.wire.specs.Answer.{accepted}
+use Rattle.wire.specs.Bytes.{beAt, part}
+use Rattle.wire.specs.Refusal.{tooShort, tooLong, wrongSum, notItsLayout, outOfRange, outputShort, noSuchChannel, numberTooLow, tableFull, malformed}
 use Rattle.frame.specs.Framing as frame
-use Rattle.frame.specs.declared.Framed.{Framed}
-use Rattle.layout.specs.Layout.{named}
+use Rattle.frame.specs.Framing.{bodyLimit}
+use Rattle.layout.specs.Layout.{fields, named}
+use Rattle.layout.specs.Group.{group}
 use Rattle.layout.specs.Paper as layout
-use Rattle.layout.specs.declared.group.Verdict.{Verdict}
-use Rattle.record.specs.Asked.{Asked, noSuchEntry, judging}
-use Rattle.entries.specs.Entry.{entryAsked, quantityAsked, stepOf}
-use Rattle.record.specs.Record.{reading, frameReading, groupAsked}
+use Rattle.record.specs.Asked.{noSuchEntry, judging}
+use Rattle.record.specs.Record.{Reading, known, unknown, reading, frameReading, groupAsked}
 use Rattle.record.specs.Paper.{paperRecord, paper, paperFrame, paperGroup}
-use Rattle.entries.specs.Paper.{paperAskedEntry, paperQuantity, paperCursor, paperStep}
 use Rattle.record.specs.declared.Record.{Record}
-use Rattle.record.specs.declared.Reading.{Reading}
-use Rattle.record.specs.declared.framed.FrameReading.{FrameReading}
-use Rattle.record.specs.declared.group.GroupReading.{GroupReading}
-use Rattle.entries.specs.declared.entry.AskedEntry.{AskedEntry}
-use Rattle.entries.specs.declared.entry.AskedQuantity.{AskedQuantity}
+use Rattle.entries.specs.Entry.{At, entryAsked, quantityAsked, stepOf}
+use Rattle.entries.specs.Paper.{paperAskedEntry, paperQuantity, paperCursor, paperStep}
 use Rattle.entries.specs.declared.cursor.Cursor.{Cursor}
-use Rattle.entries.specs.declared.cursor.Step.{Step}
+use Rattle.writer.specs.Body.{bodyLength, stated}
 use Rattle.writer.specs.Write.{answering, leaving}
 use Rattle.writer.specs.Paper as writer
-use Rattle.writer.specs.declared.Written.{Written}
 use Rattle.gaps.specs.Channel.{Event}
+use Rattle.seats.specs.Places.{channelLimit}
 use Rattle.tracker.specs.declared.Tracker.{Tracker}
-use Rattle.tracker.specs.declared.Started.{Started}
-use Rattle.tracker.specs.declared.Reply.{Reply}
-use Rattle.tracker.specs.SetUp as set-up
-use Rattle.tracker.specs.Arrived as arrival
-use Rattle.tracker.specs.Request as request
-use Rattle.tracker.specs.declared.Requested.{Requested}
+use Rattle.tracker.specs.SetUp as starting
+use Rattle.tracker.specs.Arrived as arriving
+use Rattle.tracker.specs.Request as asking
 use Rattle.demands.specs.Play.{recordOf}
-use Rattle.demands.specs.Rules.{Rule, Judged, frameRules, bodyRules, readerRules, groupCount, entryCount, shownCount, entriesLeft, stepRules, writerRules, setUpRules, Keeps, arrivalRules, requestRules}
+use Rattle.demands.specs.Rules.{Rule, _if_, Judged, OrNone, Kept, Every}
+use Rattle.demands.specs.Conditions.{L, SumDiffers, Lacks, Strays, behindOf, groupCount, entryCount, shownCount, entriesLeft, EntryLacks, EntryStrays, Exactly, NumberOut, SomeGroupOut, Falls, Keeps, NotIn, Low, Overfills, RequestShort}
 
--- judged by the rules, and "no such entry" exactly where it is not below the count, "after 4 and 5"
-pub record ByPosition {A : Type 0} (rules : List Rule) (beyond : Type 0) (answer : Answer (Asked A)) : Type 1 where
-  pub judged : Judged rules answer
-  pub none : (x : Asked A) → answer ≡ accepted x → (x ≡ noSuchEntry) ↔ beyond
+-- "Order, reader: fewer than 8 bytes is 1; then 2, 1, 3, 4 for the whole body, 5": of a frame's bytes; of a type's number and a body; of
+-- a frame with "the part of the lent bytes from place 8 to 8+L" as its body; and, at a cursor, of one entry
+abbrev pub frameRules : List ℕ → List Rule
+frameRules s = tooShort if (length s < 8) ∷ tooLong if (bodyLimit < L s) ∷ tooShort if (length s < 12 + L s) ∷ wrongSum if SumDiffers s ∷ []
 
--- judged by the rules, and on a refusal what is given back is as it stood
-pub record Kept {A S : Type 0} (rules : List Rule) (answer : Answer A) (stood given : S) : Type 1 where
-  pub judged : Judged rules answer
-  pub same : (n : ℕ) (vs : List ℕ) → answer ≡ refused n vs → given ≡ stood
+abbrev pub bodyRules : ℕ → List ℕ → List Rule
+bodyRules type b = notItsLayout if Lacks (named type) b ∷ outOfRange if Strays (named type) b ∷ []
 
--- ---- the reader
+abbrev pub readerRules : List ℕ → List Rule
+readerRules s = frameRules s ++ bodyRules (beAt s 0 4) (part 8 (8 + L s) s)
 
--- `frame::read`
-abbrev pub FrameReader : Type 1
-FrameReader = (s : List ℕ) (r : Framed) → frame.paper r ≡ frame.framing frame.headerWidth frame.bodyLimit s → Judged (frameRules s) (frame.paper r)
+abbrev pub stepRules : ℕ → List ℕ → At → List Rule
+stepRules type b c = notItsLayout if EntryLacks (behindOf (named type)) b c ∷ outOfRange if EntryStrays (behindOf (named type)) b c ∷ []
 
--- `record::read_frame`
-abbrev pub FrameRecordReader : Type 1
-FrameRecordReader = (s : List ℕ) (r : FrameReading) → paperFrame r ≡ frameReading s → Judged (readerRules s) (paperFrame r .answer)
+-- "Writer: 5 for the type, then 4, 5, 2, 6"
+abbrev pub writerRules : Reading → List ℕ → List ℕ → ℕ → List Rule
+writerRules (unknown type) ts gs room = outOfRange if Unit ∷ []
+writerRules (known m zs) ts gs room =
+    notItsLayout if (Exactly m zs ts gs → ⊥)
+    ∷ outOfRange if (NumberOut (fields m) zs ⊎ SomeGroupOut (group m) gs 0 (stated m zs))
+    ∷ tooLong if (bodyLimit < bodyLength m gs)
+    ∷ outputShort if (room < 12 + bodyLength m gs)
+    ∷ []
 
--- `record::read`
-abbrev pub RecordReader : Type 1
-RecordReader = (type : ℕ) (b : List ℕ) (r : Reading) → paper r ≡ reading type b → Judged (bodyRules type b) (paper r .answer)
+-- "channel list empty, longer than 8 or not strictly ascending"
+abbrev pub setUpRules : List ℕ → List Rule
+setUpRules numbers = malformed if (length numbers ≡ 0) ∷ malformed if (channelLimit < length numbers) ∷ malformed if Falls numbers ∷ []
 
--- `record::judge`
-abbrev pub Judge : Type 1
-Judge = (type : ℕ) (b : List ℕ) (r : Verdict) → layout.paper r ≡ judging type b → Judged (bodyRules type b) (layout.paper r)
+-- "Arrival: 7, 8, 9. Request: 7, nothing missing, 6. A malformed tracker, 10, comes before all others, in later calls too."
+abbrev pub arrivalRules : Tracker → ℕ → Event → List Rule
+arrivalRules t k e = malformed if (Keeps t → ⊥) ∷ noSuchChannel if NotIn t k ∷ numberTooLow if Low e ∷ tableFull if Overfills t k e ∷ []
 
--- `record::group_of`
-abbrev pub GroupReader : Type 1
-GroupReader =
-    (type : ℕ) (b : List ℕ) (i : ℕ) (r : GroupReading) → paperGroup r ≡ groupAsked type b i →
-    ByPosition (bodyRules type b) (groupCount type b ≤ i) (paperGroup r .answer)
+abbrev pub requestRules : Tracker → ℕ → ℕ → List Rule
+requestRules t k room = malformed if (Keeps t → ⊥) ∷ noSuchChannel if NotIn t k ∷ outputShort if RequestShort t k room ∷ []
 
--- `entries::entry_of`
-abbrev pub EntryReader : Type 1
-EntryReader =
-    (type : ℕ) (b : List ℕ) (i : ℕ) (r : AskedEntry) → paperAskedEntry r ≡ entryAsked type b i →
-    ByPosition (bodyRules type b) (entryCount type b ≤ i) (paperAskedEntry r)
-
--- `entries::quantity_of`: there is no such entry, or it shows no such quantity
-abbrev pub QuantityReader : Type 1
-QuantityReader =
-    (type : ℕ) (b : List ℕ) (i j : ℕ) (r : AskedQuantity) → paperQuantity r ≡ quantityAsked type b i j →
-    ByPosition (bodyRules type b) ((entryCount type b ≤ i) ⊎ (shownCount type b i ≤ j)) (paperQuantity r)
-
--- `Cursor::step`: 4 and 5 for the entry at the cursor
-abbrev pub Stepper : Type 1
-Stepper =
-    (type : ℕ) (b : List ℕ) (c : Cursor) (r : Step) → paperStep r ≡ stepOf (named type) b (paperCursor c) →
-    ByPosition (stepRules type b (paperCursor c)) (entriesLeft type (paperCursor c) ≡ 0) (paperStep r)
-
--- ---- the writer
-
--- `writer::write`, and the lent output
-abbrev pub Writer : Type 1
-Writer =
-    (r : Record) (ts gs out after : List ℕ) (a : Written) → writer.paper a ≡ answering (paperRecord r) ts gs out →
-    after ≡ leaving (paperRecord r) ts gs out → Kept (writerRules (paperRecord r) ts gs (length out)) (writer.paper a) out after
-
--- ---- the tracker
-
--- `Tracker::set_up`: "set-up refused gives the all-zero tracker"
-abbrev pub SetUp : Type 1
-SetUp =
-    (numbers : List ℕ) (r : Started) → set-up.paper r ≡ set-up.setUp numbers →
-    Kept (setUpRules numbers) (set-up.saidOf (r .verdict)) (set-up.blankOf []) (r .tracker)
-
--- "with no channel, which later calls refuse by 10": it breaks the rules
-abbrev pub ZeroBreaks : Type 0
-ZeroBreaks = Keeps (set-up.blankOf []) → ⊥
-
--- `Tracker::tick` and `Tracker::heartbeat`, and the gap record
-abbrev pub Arrival : Type 1
-Arrival =
-    (t : Tracker) (k : ℕ) (e : Event) (r : Reply) → arrival.paper r ≡ arrival.arrived t (arrival.on k e) →
-    Kept (arrivalRules t k e) (arrival.saidOf (r .verdict)) t (r .next)
-
--- `Tracker::request`, and the lent output: as it stood also where nothing is missing
-pub record Asking (t : Tracker) (k : ℕ) (answer : Answer request.Said) (out after : List ℕ) : Type 1 where
-  pub kept : Kept (requestRules t k (length out)) answer out after
-  pub none : (x : request.Said) → answer ≡ accepted x → (x ≡ request.nothing) ↔ (recordOf t k .runs ≡ [])
-  pub unwritten : answer ≡ accepted request.nothing → after ≡ out
-
-abbrev pub Request : Type 1
-Request =
-    (t : Tracker) (k : ℕ) (out after : List ℕ) (a : Requested) → request.paper a ≡ request.answering t k out →
-    after ≡ request.leaving t k out → Asking t k (request.paper a) out after
+pub record Demand1 : Type 1 where
+  -- `frame::read`, `record::read_frame`, `record::read`, `record::judge`
+  pub frame-read : (s : List ℕ) → Every frame.paper (frame.framing frame.headerWidth bodyLimit s) (λ a. Judged (frameRules s) a)
+  pub read-frame : (s : List ℕ) → Every paperFrame (frameReading s) (λ a. Judged (readerRules s) (a .answer))
+  pub read : (type : ℕ) (b : List ℕ) → Every paper (reading type b) (λ a. Judged (bodyRules type b) (a .answer))
+  pub judge : (type : ℕ) (b : List ℕ) → Every layout.paper (judging type b) (λ a. Judged (bodyRules type b) a)
+  -- `record::group_of`, `entries::entry_of`, `entries::quantity_of`, by position; `Cursor::step`
+  pub group-of :
+      (type : ℕ) (b : List ℕ) (i : ℕ) → Every paperGroup (groupAsked type b i)
+      (λ a. OrNone (bodyRules type b) noSuchEntry (groupCount type b ≤ i) (a .answer))
+  pub entry-of :
+      (type : ℕ) (b : List ℕ) (i : ℕ) → Every paperAskedEntry (entryAsked type b i)
+      (λ a. OrNone (bodyRules type b) noSuchEntry (entryCount type b ≤ i) a)
+  pub quantity-of :
+      (type : ℕ) (b : List ℕ) (i j : ℕ) → Every paperQuantity (quantityAsked type b i j)
+      (λ a. OrNone (bodyRules type b) noSuchEntry ((entryCount type b ≤ i) ⊎ (shownCount type b i ≤ j)) a)
+  pub step :
+      (type : ℕ) (b : List ℕ) (c : Cursor) → Every paperStep (stepOf (named type) b (paperCursor c))
+      (λ a. OrNone (stepRules type b (paperCursor c)) noSuchEntry (entriesLeft type (paperCursor c) ≡ 0) a)
+  -- `writer::write`, and the lent output
+  pub write :
+      (r : Record) (ts gs out : List ℕ) → Every writer.paper (answering (paperRecord r) ts gs out)
+      (λ a. Kept (writerRules (paperRecord r) ts gs (length out)) a out (leaving (paperRecord r) ts gs out))
+  -- `Tracker::set_up`: "set-up refused gives the all-zero tracker, with no channel, which later calls refuse by 10"
+  pub set-up : (numbers : List ℕ) → Every starting.paper (starting.setUp numbers) (λ a. Kept (setUpRules numbers) (a .said) (starting.blankOf []) (a .tracker))
+  pub zero-breaks : Keeps (starting.blankOf []) → ⊥
+  -- `Tracker::tick`, `Tracker::heartbeat`, and the gap record
+  pub arrival :
+      (t : Tracker) (k : ℕ) (e : Event) → Every arriving.paper (arriving.arrived t (arriving.on k e))
+      (λ a. Kept (arrivalRules t k e) (a .said) t (a .next))
+  -- `Tracker::request`, and the lent output, which stands also where nothing is missing
+  pub request :
+      (t : Tracker) (k : ℕ) (out : List ℕ) → Every asking.paper (asking.answering t k out)
+      (λ a. Kept (requestRules t k (length out)) a out (asking.leaving t k out))
+  pub none-missing :
+      (t : Tracker) (k : ℕ) (out : List ℕ) → Every asking.paper (asking.answering t k out)
+      (λ a. OrNone (requestRules t k (length out)) asking.nothing (recordOf t k .runs ≡ []) a)
+  pub none-written : (t : Tracker) (k : ℕ) (out : List ℕ) → asking.answering t k out ≡ accepted asking.nothing → asking.leaving t k out ≡ out

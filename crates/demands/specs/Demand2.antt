@@ -24,9 +24,10 @@ use Rattle.writer.specs.Body.{Numbers, body, bodyLength}
 use Rattle.writer.specs.Write.{frameOf, answering, leaving}
 use Rattle.writer.specs.Paper.{paper}
 use Rattle.writer.specs.declared.Written.{Written}
-use Rattle.demands.specs.Rules.{Rule, readerRules, writerRules}
+use Rattle.demands.specs.Rules.{Rule}
+use Rattle.demands.specs.Demand1.{readerRules, writerRules}
 
--- ---- acceptance: exactly where none of the conditions of specs/Rules holds
+-- ---- acceptance: exactly where none of the conditions of demand 1 holds
 
 -- accepted, whatever the value
 pub data Accepted {A : Type 0} : Answer A → Type 0 where
