@@ -31,6 +31,7 @@ enum {
     ORIZHGUM_NUMBER_TOO_LOW = 8,   /* a tick number below 1, or a last number below 0 */
     ORIZHGUM_FULL = 9,             /* the next state would need a 33rd run */
     ORIZHGUM_MALFORMED = 10,       /* a list of channels, or a tracker, that breaks the rules */
+    ORIZHGUM_UNKNOWN = 100,        /* a type that is not listed */
     ORIZHGUM_NO_SUCH_ENTRY = 101,  /* a position not below the count */
     ORIZHGUM_NO_PRICE = 102,       /* an entry that says no price; the lent number is as it stood */
     ORIZHGUM_LATE = 103,           /* a tick that was missing */
@@ -63,6 +64,10 @@ struct orizhgum_frame_answer {
 };
 
 struct orizhgum_frame_answer orizhgum_frame(const uint8_t *bytes, size_t length);
+
+/* ---- how a body of a type reads: ORIZHGUM_OK, refused by 4 or 5, or ORIZHGUM_UNKNOWN */
+
+uint32_t orizhgum_judge(uint32_t kind, const uint8_t *body, size_t length);
 
 /* ---- records: the numbers of a body's fixed fields, and its texts. A heartbeat has none of either, and reads from any body.
  * Prices and amounts have four decimals, quantities and volumes two. */

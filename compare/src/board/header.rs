@@ -391,6 +391,7 @@ calls! {
     reading:
     fn orizhgum_frame(bytes: *const u8, length: usize) -> FrameAnswer;
 
+    fn orizhgum_judge(kind: u32, body: *const u8, length: usize) -> u32;
     fn orizhgum_order(body: *const u8, length: usize) -> Answer<Order>;
     fn orizhgum_trade(body: *const u8, length: usize) -> Answer<Trade>;
     fn orizhgum_channel_heartbeat(body: *const u8, length: usize) -> Answer<ChannelHeartbeat>;
@@ -434,6 +435,7 @@ writers! {
 }
 
 /// The answers that the header names besides 0 and the refusals.
+pub const UNKNOWN: u32 = 100;
 pub const NO_SUCH_ENTRY: u32 = 101;
 pub const NO_PRICE: u32 = 102;
 pub const LATE: u32 = 103;
@@ -478,6 +480,7 @@ pub fn numbers() -> String {
         .collect();
     refused
         + &numbered! {
+            UNKNOWN = "UNKNOWN",
             NO_SUCH_ENTRY = "NO_SUCH_ENTRY",
             NO_PRICE = "NO_PRICE",
             LATE = "LATE",

@@ -1,6 +1,6 @@
 //! The product behind the trait: its C calls, with the answers in document
-//! 01's terms. The header has no call for a heartbeat's body, which has no
-//! fields, nor for an unlisted type: these two are answered here.
+//! 01's terms. The header has no call that writes an unlisted type: that is
+//! refused here.
 
 pub mod header;
 mod numbers;
@@ -77,6 +77,28 @@ fn read<N: Numbers>(call: Reads<N>, kind: u32, body: &[u8]) -> ReadAnswer {
             let bare = numbers == [0; NUMBERS] && texts == [0; TEXTS];
             ReadAnswer::Refused(refusal(answer, bare))
         }
+    }
+}
+
+/// How a body reads, by the call that tells no fields.
+fn judged(kind: u32, body: &[u8]) -> u32 {
+    unsafe { orizhgum_judge(kind, lent(body), body.len()) }
+}
+
+/// Reads a body of a type without a call of its own: a heartbeat, which has
+/// no fields, or an unlisted type.
+fn read_bare(kind: u32, body: &[u8]) -> ReadAnswer {
+    match judged(kind, body) {
+        0 => ReadAnswer::Record(Record {
+            kind,
+            numbers: [0; NUMBERS],
+            texts: [0; TEXTS],
+        }),
+        UNKNOWN => ReadAnswer::Unknown {
+            kind,
+            length: body.len(),
+        },
+        answer => ReadAnswer::Refused(answer),
     }
 }
 
@@ -241,12 +263,7 @@ impl Receiver for Board {
     }
 
     fn read(&self, kind: u32, body: &[u8]) -> ReadAnswer {
-        match kind {
-            HEARTBEAT => ReadAnswer::Record(Record {
-                kind,
-                numbers: [0; NUMBERS],
-                texts: [0; TEXTS],
-            }),
+        let answer = match kind {
             CHANNEL_HEARTBEAT => read(orizhgum_channel_heartbeat, kind, body),
             RESEND => read(orizhgum_resend, kind, body),
             STATISTICS => read(orizhgum_statistics, kind, body),
@@ -256,10 +273,16 @@ impl Receiver for Board {
             VOLUME_INDEX => read(orizhgum_volume_index, kind, body),
             ORDER => read(orizhgum_order, kind, body),
             TRADE => read(orizhgum_trade, kind, body),
-            _ => ReadAnswer::Unknown {
-                kind,
-                length: body.len(),
-            },
+            _ => read_bare(kind, body),
+        };
+        let number = match answer {
+            ReadAnswer::Record(_) => 0,
+            ReadAnswer::Unknown { .. } => UNKNOWN,
+            ReadAnswer::Refused(number) => number,
+        };
+        match judged(kind, body) == number {
+            true => answer,
+            false => ReadAnswer::Refused(STRAY),
         }
     }
 

@@ -2,22 +2,32 @@
 -- Assumes nothing.
 use Prim.Native.Nat.{ℕ, _-_, _≤_}
 use mathlib.Core.Path.{_≡_, refl, ap, sym, _∙_}
+use mathlib.Core.Bool.{true, false, true≢false}
 use mathlib.Core.List.{List, []}
 use lib.ListN.{length, take}
 use native.Mathlib.Omega.{arith}
 use lib.Seq.{take-length}
 use Rattle.wire.specs.Answer.{Answer, accepted, refused}
-use Rattle.layout.specs.Layout.{Message, typeNumber, fields, texts}
+use Rattle.layout.specs.Layout.{Message, Listed, listed, unlisted, typeNumber, fields, texts}
 use Rattle.layout.specs.Group.{judged}
-use Rattle.record.specs.Asked.{Told, onceAccepted, filled}
-use Rattle.record.specs.Record.{Reading, numbersAs, readAs, reading}
+use Rattle.record.specs.Asked.{Told, onceAccepted, filled, judgedAs}
+use Rattle.record.specs.Record.{Reading, numbersAs, readAs, reading, isListed}
 use Rattle.record.specs.Paper.{paperAnswer}
 use Rattle.record.specs.declared.Answer as code-answer
 use Rattle.record.proofs.Choice.{reads-as}
 use Rattle.record.proofs.Tell.{with-texts}
-use Rattle.board.specs.Board.{answerNumber}
-use Rattle.board.specs.Records.{Shown, recordOf, shown, readFrom, heardOf}
+use Rattle.board.specs.Board.{answerNumber, unknownNumber}
+use Rattle.board.specs.Records.{judgedNumber, Shown, recordOf, shown, readFrom, heardOf}
 use Rattle.board.specs.declared.records.Heard.{Heard}
+
+-- how a body of a type reads, by whether the type is listed
+pub unlisted-judged : (l : Listed) (s : List ℕ) → isListed l ≡ false → unknownNumber ≡ judgedNumber l s
+unlisted-judged (listed m) s e = absurd (true≢false e)
+unlisted-judged unlisted s e = refl
+
+pub listed-judged : (l : Listed) (s : List ℕ) → isListed l ≡ true → answerNumber (judgedAs l s) ≡ judgedNumber l s
+listed-judged (listed m) s e = refl
+listed-judged unlisted s e = absurd (true≢false (sym e))
 
 -- what the code found of a body
 pub heard-by : (s b : List ℕ) (n : ℕ) {a v : code-answer.Answer} {t : Told Reading} → a ≡ v → with-texts (paperAnswer a) b n ≡ t → _≡_ {A = Heard} (record { answer = answerNumber (paperAnswer v); texts = b; length = length (readFrom (paperAnswer v) s) }) (heardOf t s)

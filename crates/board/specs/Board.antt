@@ -9,6 +9,9 @@ abbrev pub plain : ℕ
 plain = 0
 
 -- the other answers, 100 and up
+abbrev pub unknownNumber : ℕ
+unknownNumber = 100
+
 abbrev pub noSuchEntryNumber : ℕ
 noSuchEntryNumber = 101
 

@@ -4,13 +4,18 @@ use Prim.Native.Nat.{ℕ}
 use mathlib.Core.List.{List, []}
 use lib.ListN.{length}
 use Rattle.wire.specs.Answer.{Answer, accepted, refused}
-use Rattle.layout.specs.Layout.{Message}
-use Rattle.record.specs.Asked.{Told}
+use Rattle.layout.specs.Layout.{Message, Listed, listed, unlisted}
+use Rattle.record.specs.Asked.{Told, judgedAs}
 use Rattle.record.specs.Record.{Reading, numbersAs, readAs}
 use Rattle.record.specs.Paper.{paperRecord}
 use Rattle.record.specs.declared.Record.{Record}
-use Rattle.board.specs.Board.{answerNumber}
+use Rattle.board.specs.Board.{answerNumber, unknownNumber}
 use Rattle.board.specs.declared.records.Heard.{Heard}
+
+-- how a body of a type reads: plainly or refused by 4 or 5; a type that is not listed is unknown
+abbrev pub judgedNumber : Listed → List ℕ → ℕ
+judgedNumber (listed m) s = answerNumber (judgedAs (listed m) s)
+judgedNumber unlisted s = unknownNumber
 
 -- an answer's number, the record with it, and its texts in their room
 pub record Shown : Type 0 where

@@ -5,6 +5,8 @@ use layout::Refusal;
 
 pub(crate) const PLAIN: u32 = 0;
 
+pub(crate) const UNKNOWN: u32 = 100;
+
 pub(crate) const NO_SUCH_ENTRY: u32 = 101;
 
 pub(crate) const NO_PRICE: u32 = 102;

@@ -1,10 +1,12 @@
 // The records: each type's numbers in its struct, its texts as bytes, one behind the other in the layout's order, unused places zero. On a refusal all of them are zero.
 ghost use mathlib.Core.Path.{_≡_};
 ghost use Rattle.layout.specs.Layout as of;
+ghost use Rattle.layout.specs.Layout.{named};
 ghost use Rattle.record.specs.Record.{reading};
 ghost use Rattle.record.specs.declared.Record.the-variants as is;
-ghost use Rattle.board.specs.Records.{shown, shownAs, heardOf};
+ghost use Rattle.board.specs.Records.{judgedNumber, shown, shownAs, heardOf};
 use crate::answers::PLAIN;
+use crate::answers::UNKNOWN;
 use crate::answers::number;
 use layout::Verdict;
 use record::Answer;
@@ -18,6 +20,20 @@ use record::Snapshot;
 use record::Statistics;
 use record::Trade;
 use record::VolumeIndex;
+
+// How a body of a type reads, without its fields: plainly, by 4 or 5, or as unknown.
+#[no_mangle]
+pub extern "C" fn orizhgum_judge(kind: u32, body: &[u8]) -> u32
+    ensures { λ r. ⌜ r ≡ judgedNumber (named kind) (now (body .entry)) ⌝ }
+{
+    if !record::listed(kind) {
+        return UNKNOWN;
+    }
+    match record::judge(kind, body) {
+        Verdict::Accepted => PLAIN,
+        Verdict::Refused(x) => number(x),
+    }
+}
 
 // What a body is answered, its texts, and of how many of its bytes the numbers are read: all of them, or none where it is refused.
 pub(crate) struct Heard {
