@@ -13,17 +13,35 @@ use Rattle.wire.specs.Answer.{Answer, accepted, refused, guard, andThen}
 use Rattle.wire.specs.Bytes.{splice}
 use Rattle.wire.specs.Refusal.{tooLong, notItsLayout, outOfRange, outputShort}
 use Rattle.frame.specs.Framing.{bodyLimit}
-use Rattle.layout.specs.Layout.{Message, size}
+use Rattle.layout.specs.Layout.{Message, Group, size, typeNumber}
 use Rattle.layout.specs.Paper.{paper}
 use Rattle.layout.specs.declared.group.Verdict.{Verdict}
-use Rattle.layout.specs.Group.{place, fit, groupRanges, verdict, also, judgedAll, noGroup}
+use Rattle.layout.specs.Group.{place, fit, groupRanges, verdict, also, judgedAll, noGroup, group}
 use Rattle.layout.proofs.Walk.{and-both}
 use Rattle.record.specs.Record.{Reading, known, unknown}
 use Rattle.record.specs.Paper.{paperRecord}
 use Rattle.record.specs.declared.Record.{Record}
 use Rattle.writer.specs.Body.{encode, body, bodyLength, textSize, even, exact, allIn, numbersIn, stated}
 use Rattle.writer.specs.Write.{frameLength, frameOf, fitting, judgedAs, judging, answering, leaving}
-use Rattle.writer.specs.Parts.{layoutIn, numbersOf, typeIn, isKnown, groupIn, countOf, inRange, judgedBy}
+use Rattle.writer.specs.Parts.{layoutIn, numbersOf, inRange, judgedBy}
+
+-- ---- what a reading says of its type and its groups
+
+abbrev pub typeIn : Reading → ℕ
+typeIn (known m zs) = typeNumber m
+typeIn (unknown type) = type
+
+abbrev pub isKnown : Reading → Bool
+isKnown (known m zs) = true
+isKnown (unknown type) = false
+
+abbrev pub groupIn : Reading → Group
+groupIn (known m zs) = group m
+groupIn (unknown type) = noGroup
+
+abbrev pub countOf : Reading → ℕ
+countOf (known m zs) = stated m zs
+countOf (unknown type) = 0
 
 -- ---- groups
 

@@ -16,10 +16,10 @@ use Rattle.record.specs.Paper.{paperRecord}
 use Rattle.record.specs.declared.Record.{Record}
 use Rattle.writer.specs.Body.{textSize}
 use Rattle.writer.specs.Paper.{paper}
-use Rattle.writer.specs.Parts.{layoutIn, typeIn, isKnown, groupIn, countOf, fieldsOf, inRange, judgedBy}
+use Rattle.writer.specs.Parts.{layoutIn, fieldsOf, inRange, judgedBy}
 use Rattle.writer.specs.Write.{frameOf, judging, leaving}
 use Rattle.writer.specs.declared.Written as code
-use Rattle.writer.proofs.Judging.{Written, by-verdict, written-of, wrote}
+use Rattle.writer.proofs.Judging.{typeIn, isKnown, groupIn, countOf, Written, by-verdict, written-of, wrote}
 use Rattle.writer.proofs.Output.{length-fields, same-length, round}
 
 -- the answer on a listed record, in the arm that the code took

@@ -1,20 +1,19 @@
--- What a record says of its type, its fields and its groups, in one place for all types. No public promise cites this.
+-- What a record says of its fields, in one place for all types. No public promise cites this.
 -- Assumes nothing.
 use Prim.Native.Nat.{ℕ, _+_}
-use mathlib.Core.Bool.{Bool, true, false, not}
+use mathlib.Core.Bool.{Bool, not}
 use mathlib.Core.List.{List, [], _∷_}
 use lib.Dec.{eqb}
 use lib.IntN.{ℤ, pos}
 use Rattle.wire.specs.Answer.{Answer, refused, guard, andThen}
 use Rattle.wire.specs.Refusal.{notItsLayout}
 use Rattle.layout.specs.Kind.{Kind}
-use Rattle.layout.specs.Layout.{snapshot, Group, commonPart, fields, typeNumber}
-use Rattle.layout.specs.Group.{noGroup, group}
+use Rattle.layout.specs.Layout.{snapshot, commonPart, fields}
 use Rattle.record.specs.Record.{Reading, known, unknown}
 use Rattle.record.specs.Paper.{paperRecord, commonValues}
 use Rattle.record.specs.declared.Record.{Record}
 use Rattle.record.specs.declared.common.Common.{Common}
-use Rattle.writer.specs.Body.{encode, numbersIn, stated}
+use Rattle.writer.specs.Body.{encode, numbersIn}
 use Rattle.writer.specs.Write.{fitting}
 
 abbrev pub layoutIn : Reading → List Kind
@@ -24,22 +23,6 @@ layoutIn (unknown type) = []
 abbrev pub numbersOf : Reading → List ℤ
 numbersOf (known m zs) = zs
 numbersOf (unknown type) = []
-
-abbrev pub typeIn : Reading → ℕ
-typeIn (known m zs) = typeNumber m
-typeIn (unknown type) = type
-
-abbrev pub isKnown : Reading → Bool
-isKnown (known m zs) = true
-isKnown (unknown type) = false
-
-abbrev pub groupIn : Reading → Group
-groupIn (known m zs) = group m
-groupIn (unknown type) = noGroup
-
-abbrev pub countOf : Reading → ℕ
-countOf (known m zs) = stated m zs
-countOf (unknown type) = 0
 
 -- the fields of a record, from its texts
 abbrev pub fieldsOf : Record → List ℕ → List ℕ
