@@ -18,9 +18,9 @@ use Rattle.layout.specs.Layout.{Message, heartbeat, channelHeartbeat, resend, s
 use Rattle.layout.specs.Group.{place, group, start, count, judged}
 use Rattle.record.specs.Record.{known, readAs, reading, frameReading, groupsAs, groupsPart}
 use Rattle.record.proofs.Choice.{named-as, named-back}
-use Rattle.writer.specs.Body.{Numbers, body, bodyLength}
+use Rattle.bodies.specs.Body.{Numbers, body, bodyLength}
 use Rattle.writer.specs.Write.{frameOf, frameLength, judgedAs}
-use Rattle.writer.proofs.Bodies.{same, exactly, reads, again-from}
+use Rattle.bodies.proofs.Bodies.{same, exactly, reads, again-from}
 use Rattle.writer.proofs.Frames.{said, framed, framed-again}
 use Rattle.writer.proofs.Judging.{known-of, fit-whole}
 use Rattle.demands.specs.Demand2.{Reads}

@@ -18,11 +18,11 @@ use Rattle.layout.specs.Group.{judged}
 use Rattle.record.specs.Asked.{Told, told}
 use Rattle.record.specs.Record.{Reading, known, unknown, readAs, reading, frameReading, groupsAs, groupsPart}
 use Rattle.record.specs.Paper.{paperRecord, paperFrame}
-use Rattle.writer.specs.Body.{encode, body, bodyLength, exact}
+use Rattle.bodies.specs.Body.{encode, body, bodyLength, exact}
 use Rattle.writer.specs.Write.{header, withSum, frameOf, judgedAs, judging, outputOf, answering, leaving}
-use Rattle.writer.proofs.Bodies.{exactly}
+use Rattle.bodies.proofs.Bodies.{exactly}
 use Rattle.writer.proofs.Judging.{known-of}
-use Rattle.writer.proofs.Round.{length-encode}
+use Rattle.bodies.proofs.Round.{length-encode}
 use Rattle.demands.specs.Demand2.{Reader, Holds, frame-first, as-it-stood, Writer, Output, Held, Reads, ReadsBack, SameBytes}
 use Rattle.demands.proofs.Rules.{accepted-where}
 use Rattle.demands.proofs.Demand1.{demand1}

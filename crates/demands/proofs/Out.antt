@@ -12,7 +12,7 @@ use Rattle.layout.specs.Kind.{Kind, quantity, form, width, ranged}
 use Rattle.layout.specs.Layout.{Message, fields, Group, ranges}
 use Rattle.layout.specs.Group.{shown, shownPlace, next, place, quantities, groupRanges, group, start, count, inRange}
 use Rattle.layout.proofs.Walk.{and-both}
-use Rattle.writer.specs.Body.{bits, first, numbersBehind, stated, numbersIn, allIn}
+use Rattle.bodies.specs.Body.{bits, first, numbersBehind, stated, numbersIn, allIn}
 use Rattle.demands.specs.Conditions as out
 use Rattle.demands.specs.Conditions.{FieldOut, QuantityOut, GroupOut, SomeGroupOut, NumberOut}
 

@@ -17,9 +17,9 @@ use Rattle.wire.specs.Bytes.{splice}
 use Rattle.wire.specs.Refusal.{outputShort}
 use Rattle.frame.specs.Framing.{headerWidth, bodyLimit, framing}
 use Rattle.layout.specs.Layout.{resend, fields, typeNumber, size}
-use Rattle.writer.specs.Body.{Numbers, none, number, words, plain, sign, body, textSize}
+use Rattle.bodies.specs.Body.{Numbers, none, number, words, plain, sign, body, textSize}
 use Rattle.writer.specs.Write.{frameOf, judgedAs}
-use Rattle.writer.proofs.Bodies.{same}
+use Rattle.bodies.proofs.Bodies.{same}
 use Rattle.writer.proofs.Frames.{framed}
 use Rattle.gaps.specs.declared.Run.{Run}
 use Rattle.gaps.specs.Limits.{mostNumber}

@@ -23,7 +23,7 @@ use Rattle.layout.proofs.Walk.{and-both, place-beyond, needs-more, needs-no-mor
 use Rattle.record.specs.Asked.{judgedAs}
 use Rattle.record.specs.Record as record-of
 use Rattle.record.specs.Record.{known, unknown}
-use Rattle.writer.specs.Body.{bodyLength, textSize, stated, even, exact, allIn}
+use Rattle.bodies.specs.Body.{bodyLength, textSize, stated, even, exact, allIn}
 use Rattle.writer.specs.Write as writer
 use Rattle.writer.specs.Write.{frameLength, judging}
 use Rattle.demands.specs.Rules.{Rule, _if_, Judged, success, here, later}

@@ -13,7 +13,7 @@ use Rattle.layout.specs.Kind.{Kind, quantity, form, width, ranged}
 use Rattle.layout.specs.Layout.{Message, fields, Group, Listed, listed, unlisted, named, Behind, nothing, groups, entries, entryGroup, behind}
 use Rattle.layout.specs.Group.{shown, shownPlace, next, place, group, start, count, counted, needs}
 use Rattle.entries.specs.Entry.{At}
-use Rattle.writer.specs.Body.{bits, first, numbersBehind, textSize, stated}
+use Rattle.bodies.specs.Body.{bits, first, numbersBehind, textSize, stated}
 use Rattle.gaps.specs.Limits.{runLimit, mostNumber}
 use Rattle.gaps.specs.Channel.{Event, tick, heartbeat, taken}
 use Rattle.tracker.specs.declared.Tracker.{Tracker}

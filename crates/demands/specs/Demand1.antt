@@ -24,7 +24,7 @@ use Rattle.record.specs.declared.Record.{Record}
 use Rattle.entries.specs.Entry.{At, entryAsked, quantityAsked, stepOf}
 use Rattle.entries.specs.Paper.{paperAskedEntry, paperQuantity, paperCursor, paperStep}
 use Rattle.entries.specs.declared.cursor.Cursor.{Cursor}
-use Rattle.writer.specs.Body.{bodyLength, stated}
+use Rattle.bodies.specs.Body.{bodyLength, stated}
 use Rattle.writer.specs.Write.{answering, leaving}
 use Rattle.writer.specs.Paper as writer
 use Rattle.gaps.specs.Channel.{Event}

@@ -20,7 +20,7 @@ use Rattle.record.specs.Record.{Reading, known, unknown, frameReading, groupsPa
 use Rattle.record.specs.Paper.{paperRecord, paperFrame}
 use Rattle.record.specs.declared.Record.{Record}
 use Rattle.record.specs.declared.framed.FrameReading.{FrameReading}
-use Rattle.writer.specs.Body.{Numbers, body, bodyLength}
+use Rattle.bodies.specs.Body.{Numbers, body, bodyLength}
 use Rattle.writer.specs.Write.{frameOf, answering, leaving}
 use Rattle.writer.specs.Paper.{paper}
 use Rattle.writer.specs.declared.Written.{Written}

@@ -19,7 +19,7 @@ use Rattle.layout.specs.Group.{fit, place, groupRanges}
 use Rattle.layout.proofs.Free.{free-channel, free-text, firstNumber-as}
 use Rattle.layout.proofs.Ranges.{at-least-0}
 use Rattle.record.specs.Record.{Reading, known}
-use Rattle.writer.specs.Body.{bodyLength, textSize, even, exact, numbersIn, allIn}
+use Rattle.bodies.specs.Body.{bodyLength, textSize, even, exact, numbersIn, allIn}
 use Rattle.writer.specs.Write as writer
 use Rattle.gaps.specs.declared.Run.{Run}
 use Rattle.gaps.specs.Limits.{mostNumber}

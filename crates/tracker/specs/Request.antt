@@ -12,7 +12,7 @@ use Rattle.wire.specs.Refusal.{outputShort, noSuchChannel, malformed}
 use Rattle.layout.specs.Kind.{characters, newsId, rejectText}
 use Rattle.layout.specs.Layout.{resend, typeNumber}
 use Rattle.record.specs.Record.{Reading, known}
-use Rattle.writer.specs.Body.{body, bodyLength}
+use Rattle.bodies.specs.Body.{body, bodyLength}
 use Rattle.writer.specs.Write.{frameOf, frameLength}
 use Rattle.gaps.specs.declared.Run.{Run}
 use Rattle.gaps.specs.Gaps.{run}

@@ -1,11 +1,5 @@
-pub mod Bodies
 pub mod Frames
 pub mod Judging
-pub mod Numbers
 pub mod Output
-pub mod Round
-pub mod Shift
-pub mod Stores
-pub mod Tests
 pub mod Typed
 pub mod Unique

@@ -1,7 +1,7 @@
 -- A frame that is stored in parts: type, length, fields in the part from place 8 on, groups behind them, checksum behind all. "Exactly 12+L bytes change".
 -- Assumes nothing.
 use Prim.Native.Nat.{ℕ, _+_, _-_, _≤_}
-use mathlib.Core.Path.{_≡_, refl, ap, sym, _∙_}
+use mathlib.Core.Path.{_≡_, ap, sym, _∙_}
 use mathlib.Core.List.{List, _++_, append-assoc}
 use native.Mathlib.Omega.{arith}
 use lib.ListN.{length, take, drop, length-append, length-drop, take-append-drop}
@@ -10,25 +10,7 @@ use Rattle.wire.specs.Bytes.{digits, part, splice, placed, checksumOf}
 use Rattle.wire.proofs.Be.{part-length}
 use Rattle.wire.proofs.Digits.{length-digits}
 use Rattle.wire.proofs.Place.{placed-fits, length-splice, splice-more}
-use Rattle.layout.specs.Layout.{size}
-use Rattle.record.specs.Paper.{paperRecord}
-use Rattle.record.specs.declared.Record.{Record}
-use Rattle.record.specs.declared.Record.the-variants.{VolumeIndex}
-use Rattle.record.specs.declared.volume_index.VolumeIndex as volume-index
-use Rattle.writer.specs.Body.{encode, textSize}
 use Rattle.writer.specs.Write.{header, withSum, frameOf}
-use Rattle.writer.specs.Parts.{layoutIn, numbersOf, fieldsOf, commonFields}
-use Rattle.writer.proofs.Round.{length-encode}
-
--- ---- the fields in a part of the output
-
-pub length-fields : (r : Record) (ts : List ℕ) → length ts ≡ textSize (layoutIn (paperRecord r)) → length (fieldsOf r ts) ≡ size (layoutIn (paperRecord r))
-length-fields r ts h = length-encode (layoutIn (paperRecord r)) (numbersOf (paperRecord r)) ts h
-
--- a stock number is stored as a count is
-pub volume-fields : (r : volume-index.VolumeIndex) (ts : List ℕ) → commonFields (r .common) (r .«stock_number») ts ≡ fieldsOf (VolumeIndex r) ts
-unfolding encode
-volume-fields r ts = refl
 
 -- ---- the frame
 

@@ -1,69 +1,92 @@
--- What the function of one type needs and gives, by the verdict that it found; once for every type.
+-- What the call of one type needs and gives, by the verdict that it found; once for every type.
 -- Assumes nothing.
 use Prim.Native.Nat.{ℕ, _+_, _≤_}
-use mathlib.Core.Path.{_≡_, refl, ap, sym, _∙_}
-use mathlib.Core.Bool.{Bool, true}
+use mathlib.Core.Path.{_≡_, ap, sym, _∙_}
 use mathlib.Core.List.{List, _++_}
 use native.Mathlib.Omega.{arith}
+use lib.IntN.{ℤ}
 use lib.ListN.{length, take, drop, length-drop}
 use lib.Seq.{length-take-le}
-use Rattle.wire.specs.Answer.{Answer, accepted, refused, guard}
+use Rattle.wire.specs.Answer.{Answer, andThen}
 use Rattle.wire.specs.Bytes.{part, splice}
-use Rattle.frame.specs.Framing.{bodyLimit}
-use Rattle.layout.specs.Layout.{size}
-use Rattle.layout.specs.Group.{also, judgedAll}
-use Rattle.record.specs.Paper.{paperRecord}
-use Rattle.record.specs.declared.Record.{Record}
-use Rattle.writer.specs.Body.{textSize}
+use Rattle.frame.specs.Framing.{headerWidth, sumWidth, bodyLimit}
+use Rattle.layout.specs.Layout.{Message, fields, size, typeNumber}
+use Rattle.record.specs.Record.{known}
+use Rattle.bodies.specs.Body.{body, encode}
+use Rattle.bodies.specs.Parts.{judgedParts, stored}
+use Rattle.bodies.proofs.Bodies.{exactly}
+use Rattle.bodies.proofs.Round.{length-encode}
+use Rattle.bodies.proofs.Stores.{fits}
 use Rattle.writer.specs.Paper.{paper}
-use Rattle.writer.specs.Parts.{layoutIn, fieldsOf, inRange, judgedBy}
-use Rattle.writer.specs.Write.{frameOf, judging, leaving}
-use Rattle.writer.specs.declared.Written as code
-use Rattle.writer.proofs.Judging.{typeIn, isKnown, groupIn, countOf, Written, by-verdict, written-of, wrote}
-use Rattle.writer.proofs.Output.{length-fields, same-length, round}
+use Rattle.writer.specs.Write.{frameOf, fitting, judgedAs, answering, leaving}
+use Rattle.writer.specs.declared.Refusal.{Refusal}
+use Rattle.writer.specs.declared.Written.{Written}
+use Rattle.writer.specs.declared.Written.the-variants.{Whole, Refused}
+use Rattle.writer.proofs.Judging.{Known, known-of, by-verdict}
+use Rattle.writer.proofs.Output.{same-length, round}
 
--- the answer on a listed record, in the arm that the code took
-pub judged :
-    (r : Record) (ts gs : List ℕ) (room : ℕ) → isKnown (paperRecord r) ≡ true → {b : Bool} {v w : Answer Unit} → v ≡ also b w → b ≡ inRange r →
-    w ≡ judgedAll (groupIn (paperRecord r)) gs (countOf (paperRecord r)) → {a u : code.Written} →
-    paper a ≡ judgedBy (size (layoutIn (paperRecord r))) (textSize (layoutIn (paperRecord r))) (length ts) v (length gs) room → a ≡ u →
-    paper u ≡ judging (paperRecord r) ts gs room
-judged r ts gs room k e f g h i = sym (ap paper i) ∙ h ∙ by-verdict ts gs room r k e f g
+-- the answer on a listed type, in the arm that the code took
+pub record Told (m : Message) (zs : List ℤ) (ts gs out : List ℕ) (a : Written) : Type 0 where
+  pub says : paper a ≡ judgedAs m zs ts gs (length out)
 
--- a heartbeat has no numbers to judge
-pub no-numbers : (a : Answer Unit) → a ≡ also true a
-unfolding guard
-no-numbers (accepted u) = refl
-no-numbers (refused n vs) = refl
+pub told :
+    (m : Message) {zs : List ℤ} {ts gs out : List ℕ} {v : Answer Unit} {a u : Written} → v ≡ judgedParts m zs ts gs →
+    paper a ≡ andThen v (λ (x : Unit). fitting (size (fields m) + length gs) (length out)) → a ≡ u → Told m zs ts gs out u
+told m {zs} {ts} {gs} {out} e h i =
+    record {
+      says =
+          sym (ap paper i)
+          ∙ h
+          ∙ ap (λ (v : Answer Unit). andThen v (λ (x : Unit). fitting (size (fields m) + length gs) (length out))) e
+          ∙ by-verdict m zs ts gs (length out);
+    }
 
--- where it is accepted
-module _ (r : Record) (ts gs out : List ℕ) {n : ℕ} (e : accepted n ≡ judging (paperRecord r) ts gs (length out)) where
+-- a refusal: the output stays as it stood
+pub kept :
+    {m : Message} {zs : List ℤ} {ts gs out : List ℕ} {x : Refusal} → Told m zs ts gs out (Refused x) →
+    (paper (Refused x) ≡ answering (known m zs) ts gs out) × (out ≡ leaving (known m zs) ts gs out)
+unfolding answering leaving
+kept t = (t .says, rw (sym (t .says)))
+
+-- a frame
+module _ {m : Message} {zs : List ℤ} {ts gs out : List ℕ} {n : ℕ} (t : Told m zs ts gs out (Whole n)) where
   abbrev width : ℕ
-  width = size (layoutIn (paperRecord r))
+  width = size (fields m)
 
-  says : Written (paperRecord r) ts gs (length out) n
-  says = written-of (paperRecord r) ts gs (length out) n (sym e)
+  says : Known m zs ts gs (length out) n
+  says = known-of m zs ts gs (length out) n (sym (t .says))
 
   -- the part that the fields are lent
-  pub ends : 8 + width ≤ length out
+  pub ends : headerWidth + width ≤ length out
   ends = omega (arith, says .there)
 
-  pub lent : (length ts ≡ textSize (layoutIn (paperRecord r))) × (length (take width (drop 8 out)) ≡ width)
-  lent = (says .texts, length-take-le width (drop 8 out) (rw length-drop (omega (arith, ends))))
+  -- a frame without fields
+  pub room : (width + length gs ≤ bodyLimit) × (headerWidth + sumWidth + (width + length gs) ≤ length out)
+  room = (says .within, omega (arith, says .there))
 
-  -- the fields p in it, and the frame round them
-  module _ {p : List ℕ} (f : p ≡ fieldsOf r ts) where
+  pub framed : {z : List ℕ} → z ≡ splice out 0 (frameOf (typeNumber m) (encode (fields m) zs ts ++ gs)) → (paper (Whole n) ≡ answering (known m zs) ts gs out) × (z ≡ leaving (known m zs) ts gs out)
+  unfolding answering leaving body
+  framed g = (t .says, g ∙ rw (sym (t .says)))
+
+  -- the fields p in their part, and the frame round them
+  module _ {p : List ℕ} (f : p ≡ stored m zs ts (take width (drop headerWidth out))) where
     abbrev filled : List ℕ
-    filled = take 8 out ++ (p ++ drop width (drop 8 out))
+    filled = take headerWidth out ++ (p ++ drop width (drop headerWidth out))
+
+    holds : p ≡ encode (fields m) zs ts
+    holds =
+        f ∙ fits m zs ts _ (exactly m zs ts gs (says .exacts) .texts) (length-take-le width (drop headerWidth out) (rw length-drop (omega (arith, ends))))
 
     long : length p ≡ width
-    long = ap length f ∙ length-fields r ts (says .texts)
+    long = ap length holds ∙ length-encode (fields m) zs ts (exactly m zs ts gs (says .exacts) .texts)
 
-    pub sealing : (width + length gs ≤ bodyLimit) × (12 + (width + length gs) ≤ length filled)
+    pub sealing : (width + length gs ≤ bodyLimit) × (headerWidth + sumWidth + (width + length gs) ≤ length filled)
     sealing = (says .within, rw (same-length out p width long ends) (omega (arith, says .there)))
 
-    pub left : {z : List ℕ} → z ≡ splice filled 0 (frameOf (typeIn (paperRecord r)) (part 8 (8 + width) filled ++ gs)) → z ≡ leaving (paperRecord r) ts gs out
+    pub left :
+        {z : List ℕ} → z ≡ splice filled 0 (frameOf (typeNumber m) (part headerWidth (headerWidth + width) filled ++ gs)) →
+        (paper (Whole n) ≡ answering (known m zs) ts gs out) × (z ≡ leaving (known m zs) ts gs out)
     left {z} g =
-        round out p width long ends (typeIn (paperRecord r)) gs z g
-        ∙ ap (λ (q : List ℕ). splice out 0 (frameOf (typeIn (paperRecord r)) (q ++ gs))) f
-        ∙ wrote (paperRecord r) ts gs out n (typeIn (paperRecord r)) (sym e) refl
+        framed
+        (round out p width long ends (typeNumber m) gs z g
+        ∙ ap (λ (q : List ℕ). splice out 0 (frameOf (typeNumber m) (q ++ gs))) holds)

@@ -1,4 +1,2 @@
-pub mod Body
 pub mod Write
-pub mod Parts
 pub mod Paper

@@ -12,7 +12,7 @@ use Rattle.wire.specs.Refusal.{tooLong, notItsLayout, outOfRange, outputShort}
 use Rattle.frame.specs.Framing.{headerWidth, sumWidth, bodyLimit}
 use Rattle.layout.specs.Layout.{Message, typeNumber}
 use Rattle.record.specs.Record.{Reading, known, unknown}
-use Rattle.writer.specs.Body.{body, bodyLength, exact, allIn}
+use Rattle.bodies.specs.Body.{body, bodyLength, exact, allIn}
 
 -- "type (4 bytes), body length L (4)"
 unfoldable pub header : ℕ → ℕ → List ℕ

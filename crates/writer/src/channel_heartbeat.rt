@@ -1,37 +1,19 @@
 // 390095, channel heartbeat; it has no texts.
 ghost use mathlib.Core.Path.{_≡_};
-ghost use lib.ListN.{length};
 ghost use Rattle.record.specs.Paper.{paperRecord};
 ghost use Rattle.record.specs.declared.Record.the-variants as variant;
 ghost use Rattle.writer.specs.Paper.{paper};
-ghost use Rattle.writer.specs.Parts.{fieldsOf, inRange};
 ghost use Rattle.writer.specs.Write.{answering, leaving};
 use crate::Written;
-use crate::groups::none;
 use crate::judge;
+use crate::store::End;
 use crate::store::seal;
-use layout::natural;
-use layout::yes_no;
+use bodies::Size;
+use bodies::channel_heartbeat_verdict;
+use bodies::put_channel_heartbeat;
+use frame::Frame;
 use record::ChannelHeartbeat;
 use record::Record;
-use wire::unsigned;
-
-// Whether its numbers are in range.
-fn in_range(r: ChannelHeartbeat) -> bool
-    ensures { λ a. ⌜ a ≡ inRange (variant.ChannelHeartbeat r) ⌝ }
-{
-    natural(unsigned(r.last_number)) & yes_no(r.end)
-}
-
-// Its fields, one behind the other.
-fn put(r: ChannelHeartbeat, texts: &[u8], out: &mut [u8])
-    requires { ⌜ (length (now texts) ≡ 0) × (length (now out) ≡ 12) ⌝ }
-    ensures { λ _. ⌜ now (out .exit) ≡ fieldsOf (variant.ChannelHeartbeat r) (now (texts .entry)) ⌝ }
-{
-    wire::put2(out, 0, r.channel);
-    wire::put_i64(out, 2, r.last_number);
-    wire::put2(out, 10, r.end);
-}
 
 // Writes the frame of a channel heartbeat, as `write` does.
 pub fn write_channel_heartbeat(
@@ -43,11 +25,16 @@ pub fn write_channel_heartbeat(
     ensures { λ w. ⌜ paper w ≡ answering (paperRecord (variant.ChannelHeartbeat r)) (now (texts .entry)) (now (groups .entry)) (now (out .entry)) ⌝ }
     ensures { λ w. ⌜ now (out .exit) ≡ leaving (paperRecord (variant.ChannelHeartbeat r)) (now (texts .entry)) (now (groups .entry)) (now (out .entry)) ⌝ }
 {
-    let verdict = none(groups).also(in_range(r));
-    match judge(12, 0, texts.len(), verdict, groups.len(), out.len()) {
+    let verdict = channel_heartbeat_verdict(r, texts, groups);
+    match judge(Size::CHANNEL_HEARTBEAT, verdict, groups.len(), out.len()) {
         Written::Whole(n) => {
-            put(r, texts, &mut out[8..20]);
-            seal(Record::CHANNEL_HEARTBEAT, 12, groups, out);
+            put_channel_heartbeat(r, texts, &mut out[Frame::HEADER..End::CHANNEL_HEARTBEAT]);
+            seal(
+                Record::CHANNEL_HEARTBEAT,
+                Size::CHANNEL_HEARTBEAT,
+                groups,
+                out,
+            );
             Written::Whole(n)
         }
         Written::Refused(x) => Written::Refused(x),

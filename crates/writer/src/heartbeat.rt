@@ -5,9 +5,10 @@ ghost use Rattle.record.specs.declared.Record.the-variants as variant;
 ghost use Rattle.writer.specs.Paper.{paper};
 ghost use Rattle.writer.specs.Write.{answering, leaving};
 use crate::Written;
-use crate::groups::none;
 use crate::judge;
 use crate::store::seal;
+use bodies::Size;
+use bodies::heartbeat_verdict;
 use record::Record;
 
 // Writes the frame of a heartbeat, as `write` does.
@@ -15,9 +16,10 @@ pub fn write_heartbeat(texts: &[u8], groups: &[u8], out: &mut [u8]) -> Written
     ensures { λ w. ⌜ paper w ≡ answering (paperRecord variant.Heartbeat) (now (texts .entry)) (now (groups .entry)) (now (out .entry)) ⌝ }
     ensures { λ w. ⌜ now (out .exit) ≡ leaving (paperRecord variant.Heartbeat) (now (texts .entry)) (now (groups .entry)) (now (out .entry)) ⌝ }
 {
-    match judge(0, 0, texts.len(), none(groups), groups.len(), out.len()) {
+    let verdict = heartbeat_verdict(texts, groups);
+    match judge(Size::HEARTBEAT, verdict, groups.len(), out.len()) {
         Written::Whole(n) => {
-            seal(Record::HEARTBEAT, 0, groups, out);
+            seal(Record::HEARTBEAT, Size::HEARTBEAT, groups, out);
             Written::Whole(n)
         }
         Written::Refused(x) => Written::Refused(x),

@@ -1,15 +1,13 @@
 // Frames from records, texts and groups.
 ghost use mathlib.Core.Path.{_≡_};
 ghost use Prim.Native.Nat.{_+_, _≤_};
+ghost use Rattle.wire.specs.Answer.{andThen};
 ghost use Rattle.layout.specs.Paper as layout_paper;
 ghost use Rattle.record.specs.Paper.{paperRecord};
 ghost use Rattle.writer.specs.Paper.{paper};
-ghost use Rattle.writer.specs.Parts.{judgedBy};
 ghost use Rattle.writer.specs.Write.{fitting, answering, leaving};
 
 mod channel_heartbeat;
-mod common;
-mod groups;
 mod heartbeat;
 mod index;
 mod order;
@@ -64,21 +62,11 @@ fn fitted(size: usize, groups: usize, room: usize) -> Written
     Written::Whole(total)
 }
 
-// How texts of some length, and a verdict on fields and groups, are judged for an output of room bytes: 4 for the texts, the verdict, 2, 6.
-fn judge(
-    size: usize,
-    wanted: usize,
-    texts: usize,
-    verdict: Verdict,
-    groups: usize,
-    room: usize,
-) -> Written
+// The verdict on texts, groups and fields, then 2 and 6 as above.
+fn judge(size: usize, verdict: Verdict, groups: usize, room: usize) -> Written
     requires { ⌜ size ≤ 69 ⌝ }
-    ensures { λ r. ⌜ paper r ≡ judgedBy size wanted texts (layout_paper.paper verdict) groups room ⌝ }
+    ensures { λ r. ⌜ paper r ≡ andThen (layout_paper.paper verdict) (λ (u : Unit). fitting (size + groups) room) ⌝ }
 {
-    if texts != wanted {
-        return Written::Refused(Refusal::NotItsLayout);
-    }
     match verdict {
         Verdict::Accepted => fitted(size, groups, room),
         Verdict::Refused(x) => match x {

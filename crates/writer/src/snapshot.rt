@@ -5,12 +5,13 @@ ghost use Rattle.record.specs.declared.Record.the-variants as variant;
 ghost use Rattle.writer.specs.Paper.{paper};
 ghost use Rattle.writer.specs.Write.{answering, leaving};
 use crate::Written;
-use crate::common::in_range;
-use crate::common::put;
 use crate::judge;
+use crate::store::End;
 use crate::store::seal;
-use layout::Groups;
-use layout::judge_all;
+use bodies::Size;
+use bodies::put_common;
+use bodies::snapshot_verdict;
+use frame::Frame;
 use record::Record;
 use record::Snapshot;
 
@@ -19,11 +20,16 @@ pub fn write_snapshot(r: Snapshot, texts: &[u8], groups: &[u8], out: &mut [u8]) 
     ensures { λ w. ⌜ paper w ≡ answering (paperRecord (variant.Snapshot r)) (now (texts .entry)) (now (groups .entry)) (now (out .entry)) ⌝ }
     ensures { λ w. ⌜ now (out .exit) ≡ leaving (paperRecord (variant.Snapshot r)) (now (texts .entry)) (now (groups .entry)) (now (out .entry)) ⌝ }
 {
-    let verdict = judge_all(Groups::SnapshotEntries, groups, r.count).also(in_range(r.common));
-    match judge(69, 23, texts.len(), verdict, groups.len(), out.len()) {
+    let verdict = snapshot_verdict(r, texts, groups);
+    match judge(Size::COMMON, verdict, groups.len(), out.len()) {
         Written::Whole(n) => {
-            put(r.common, r.count, texts, &mut out[8..77]);
-            seal(Record::SNAPSHOT, 69, groups, out);
+            put_common(
+                r.common,
+                r.count,
+                texts,
+                &mut out[Frame::HEADER..End::COMMON],
+            );
+            seal(Record::SNAPSHOT, Size::COMMON, groups, out);
             Written::Whole(n)
         }
         Written::Refused(x) => Written::Refused(x),

@@ -5,11 +5,13 @@ ghost use Rattle.record.specs.declared.Record.the-variants as variant;
 ghost use Rattle.writer.specs.Paper.{paper};
 ghost use Rattle.writer.specs.Write.{answering, leaving};
 use crate::Written;
-use crate::common::in_range;
-use crate::common::put;
-use crate::groups::none;
 use crate::judge;
+use crate::store::End;
 use crate::store::seal;
+use bodies::Size;
+use bodies::put_common;
+use bodies::volume_index_verdict;
+use frame::Frame;
 use record::Record;
 use record::VolumeIndex;
 
@@ -18,11 +20,16 @@ pub fn write_volume_index(r: VolumeIndex, texts: &[u8], groups: &[u8], out: &mut
     ensures { λ w. ⌜ paper w ≡ answering (paperRecord (variant.VolumeIndex r)) (now (texts .entry)) (now (groups .entry)) (now (out .entry)) ⌝ }
     ensures { λ w. ⌜ now (out .exit) ≡ leaving (paperRecord (variant.VolumeIndex r)) (now (texts .entry)) (now (groups .entry)) (now (out .entry)) ⌝ }
 {
-    let verdict = none(groups).also(in_range(r.common));
-    match judge(69, 23, texts.len(), verdict, groups.len(), out.len()) {
+    let verdict = volume_index_verdict(r, texts, groups);
+    match judge(Size::COMMON, verdict, groups.len(), out.len()) {
         Written::Whole(n) => {
-            put(r.common, r.stock_number, texts, &mut out[8..77]);
-            seal(Record::VOLUME_INDEX, 69, groups, out);
+            put_common(
+                r.common,
+                r.stock_number,
+                texts,
+                &mut out[Frame::HEADER..End::COMMON],
+            );
+            seal(Record::VOLUME_INDEX, Size::COMMON, groups, out);
             Written::Whole(n)
         }
         Written::Refused(x) => Written::Refused(x),

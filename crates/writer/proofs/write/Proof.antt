@@ -7,54 +7,34 @@ use Rattle.writer.proofs.write.Statement.{statement}
 use Rattle.writer.proofs.write.Tie as tie
 
 returns : tie.Need-returns
-returns c =
-    let a = c .before .before .before .before .before .before .before .before .before .args in
-    by-arm (now (a .texts)) (now (a .groups)) (now (a .out)) (c .before .before .before .before .enum-told .given .1) (c .before .before .write-heartbeat .ensures)
+returns c = by-arm _ _ _ (c .before .before .before .before .enum-told .given .1) (c .before .before .write-heartbeat .ensures)
 
 returns-2 : tie.Need-returns-2
-returns-2 c =
-    let a = c .before .before .before .before .before .before .before .before .before .before .args in
-    by-arm (now (a .texts)) (now (a .groups)) (now (a .out)) (c .before .before .before .before .before .«record» .given .1) (c .before .before .write-channel-heartbeat .ensures)
+returns-2 c = by-arm _ _ _ (c .before .before .before .before .before .«record» .given .1) (c .before .before .write-channel-heartbeat .ensures)
 
 returns-3 : tie.Need-returns-3
-returns-3 c =
-    let a = c .before .before .before .before .before .before .before .before .before .before .args in
-    by-arm (now (a .texts)) (now (a .groups)) (now (a .out)) (c .before .before .before .before .before .record2 .given .1) (c .before .before .write-resend .ensures)
+returns-3 c = by-arm _ _ _ (c .before .before .before .before .before .record2 .given .1) (c .before .before .write-resend .ensures)
 
 returns-4 : tie.Need-returns-4
-returns-4 c =
-    let a = c .before .before .before .before .before .before .before .before .before .before .args in
-    by-arm (now (a .texts)) (now (a .groups)) (now (a .out)) (c .before .before .before .before .before .record3 .given .1) (c .before .before .write-statistics .ensures)
+returns-4 c = by-arm _ _ _ (c .before .before .before .before .before .record3 .given .1) (c .before .before .write-statistics .ensures)
 
 returns-5 : tie.Need-returns-5
-returns-5 c =
-    let a = c .before .before .before .before .before .before .before .before .before .before .args in
-    by-arm (now (a .texts)) (now (a .groups)) (now (a .out)) (c .before .before .before .before .before .record4 .given .1) (c .before .before .write-security-status .ensures)
+returns-5 c = by-arm _ _ _ (c .before .before .before .before .before .record4 .given .1) (c .before .before .write-security-status .ensures)
 
 returns-6 : tie.Need-returns-6
-returns-6 c =
-    let a = c .before .before .before .before .before .before .before .before .before .before .args in
-    by-arm (now (a .texts)) (now (a .groups)) (now (a .out)) (c .before .before .before .before .before .record5 .given .1) (c .before .before .write-snapshot .ensures)
+returns-6 c = by-arm _ _ _ (c .before .before .before .before .before .record5 .given .1) (c .before .before .write-snapshot .ensures)
 
 returns-7 : tie.Need-returns-7
-returns-7 c =
-    let a = c .before .before .before .before .before .before .before .before .before .before .args in
-    by-arm (now (a .texts)) (now (a .groups)) (now (a .out)) (c .before .before .before .before .before .record6 .given .1) (c .before .before .write-index .ensures)
+returns-7 c = by-arm _ _ _ (c .before .before .before .before .before .record6 .given .1) (c .before .before .write-index .ensures)
 
 returns-8 : tie.Need-returns-8
-returns-8 c =
-    let a = c .before .before .before .before .before .before .before .before .before .before .args in
-    by-arm (now (a .texts)) (now (a .groups)) (now (a .out)) (c .before .before .before .before .before .record7 .given .1) (c .before .before .write-volume-index .ensures)
+returns-8 c = by-arm _ _ _ (c .before .before .before .before .before .record7 .given .1) (c .before .before .write-volume-index .ensures)
 
 returns-9 : tie.Need-returns-9
-returns-9 c =
-    let a = c .before .before .before .before .before .before .before .before .before .before .args in
-    by-arm (now (a .texts)) (now (a .groups)) (now (a .out)) (c .before .before .before .before .before .record8 .given .1) (c .before .before .write-order .ensures)
+returns-9 c = by-arm _ _ _ (c .before .before .before .before .before .record8 .given .1) (c .before .before .write-order .ensures)
 
 returns-10 : tie.Need-returns-10
-returns-10 c =
-    let a = c .before .before .before .before .before .before .before .before .before .before .args in
-    by-arm (now (a .texts)) (now (a .groups)) (now (a .out)) (c .before .before .before .before .before .record9 .given .1) (c .before .before .write-trade .ensures)
+returns-10 c = by-arm _ _ _ (c .before .before .before .before .before .record9 .given .1) (c .before .before .write-trade .ensures)
 
 returns-11 : tie.Need-returns-11
 unfolding answering leaving

@@ -1,0 +1,47 @@
+// 300111, 309011 and 309111: the common part and one number of four bytes; their texts are stream, security, source and phase.
+ghost use mathlib.Core.Path.{_≡_};
+ghost use mathlib.Core.List.{[], _∷_};
+ghost use lib.IntN.{pos};
+ghost use Rattle.layout.specs.Layout.{commonPart};
+ghost use Rattle.layout.specs.Layout as of;
+ghost use Rattle.record.specs.Paper.{commonValues};
+ghost use Rattle.bodies.specs.Body.{numbersIn};
+ghost use Rattle.bodies.specs.Parts.{stored};
+use crate::Size;
+use layout::amount;
+use layout::natural;
+use layout::price;
+use layout::quantity;
+use layout::time;
+use record::Common;
+use wire::unsigned;
+
+// Whether the numbers of the common part are in range.
+pub(crate) fn in_range(r: Common) -> bool
+    ensures { λ a. ⌜ a ≡ numbersIn commonPart (commonValues r []) ⌝ }
+{
+    time(unsigned(r.time))
+        & (price(unsigned(r.previous_close))
+            & (natural(unsigned(r.trade_count))
+                & (quantity(unsigned(r.volume)) & amount(unsigned(r.amount)))))
+}
+
+// The fields, one behind the other, with a count or a stock number as the last, where texts and output have just their lengths.
+pub fn put_common(r: Common, last: u32, texts: &[u8], out: &mut [u8])
+    ensures { λ _. ⌜ now (out .exit) ≡ stored of.snapshot (commonValues r (pos last ∷ [])) (now (texts .entry)) (now (out .entry)) ⌝ }
+{
+    if texts.len() != Size::COMMON_TEXTS {
+        return;
+    }
+    if out.len() != Size::COMMON {
+        return;
+    }
+    wire::put_i64(out, 0, r.time);
+    wire::put2(out, 8, r.channel);
+    wire::copy(out, 10, texts);
+    wire::put_i64(out, 33, r.previous_close);
+    wire::put_i64(out, 41, r.trade_count);
+    wire::put_i64(out, 49, r.volume);
+    wire::put_i64(out, 57, r.amount);
+    wire::put4(out, 65, last);
+}

@@ -1,0 +1,55 @@
+// 390094, resend; its texts are news id and reject text.
+ghost use mathlib.Core.Path.{_≡_};
+ghost use Rattle.layout.specs.Layout.{fields};
+ghost use Rattle.layout.specs.Layout as of;
+ghost use Rattle.layout.specs.Paper.{paper};
+ghost use Rattle.record.specs.declared.Record.the-variants as variant;
+ghost use Rattle.bodies.specs.Body.{numbersIn};
+ghost use Rattle.bodies.specs.Parts.{numbersOf, judgedParts, stored};
+use crate::Size;
+use crate::groups::none;
+use layout::Refusal;
+use layout::Verdict;
+use layout::natural;
+use layout::resend_type;
+use layout::status;
+use record::Resend;
+use wire::unsigned;
+
+// Whether its numbers are in range.
+fn in_range(r: Resend) -> bool
+    ensures { λ a. ⌜ a ≡ numbersIn (fields of.resend) (numbersOf (variant.Resend r)) ⌝ }
+{
+    resend_type(r.resend_type)
+        & (natural(unsigned(r.first_number))
+            & (natural(unsigned(r.last_number)) & status(r.status)))
+}
+
+// 4 for texts or groups that aren't exactly its own, then 5 for a number out of range.
+pub fn resend_verdict(r: Resend, texts: &[u8], groups: &[u8]) -> Verdict
+    ensures { λ v. ⌜ paper v ≡ judgedParts of.resend (numbersOf (variant.Resend r)) (now (texts .entry)) (now (groups .entry)) ⌝ }
+{
+    if texts.len() != Size::RESEND_TEXTS {
+        return Verdict::Refused(Refusal::NotItsLayout);
+    }
+    none(groups).also(in_range(r))
+}
+
+// Its fields, one behind the other, where texts and output have just their lengths.
+pub fn put_resend(r: Resend, texts: &[u8], out: &mut [u8])
+    ensures { λ _. ⌜ now (out .exit) ≡ stored of.resend (numbersOf (variant.Resend r)) (now (texts .entry)) (now (out .entry)) ⌝ }
+{
+    if texts.len() != Size::RESEND_TEXTS {
+        return;
+    }
+    if out.len() != Size::RESEND {
+        return;
+    }
+    wire::put1(out, 0, r.resend_type);
+    wire::put2(out, 1, r.channel);
+    wire::put_i64(out, 3, r.first_number);
+    wire::put_i64(out, 11, r.last_number);
+    wire::copy(out, 19, &texts[0..8]);
+    wire::put1(out, 27, r.status);
+    wire::copy(out, 28, &texts[8..24]);
+}
