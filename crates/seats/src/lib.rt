@@ -5,11 +5,10 @@ use gaps::Runs;
 pub use rules::ascending;
 pub use rules::seat_of;
 
-// Where a channel stands in a tracker.
-pub enum Seat {
-    Malformed,
-    NotInTracker,
-    At(usize),
+// Whether a tracker keeps the rules, and the place of a channel in it: the count of channels where it is not there.
+pub struct Seat {
+    pub sound: bool,
+    pub at: usize,
 }
 
 impl Seat {

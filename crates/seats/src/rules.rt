@@ -5,7 +5,7 @@ ghost use Rattle.gaps.specs.Gaps.{canon};
 ghost use Rattle.gaps.specs.Limits.{runLimit, mostNumber};
 ghost use Rattle.seats.specs.Places.{channelLimit, placeCount, firstNumber, span};
 ghost use Rattle.seats.specs.Rules.{ascends, allZero, soundRow, soundRows, marks, blank, sound};
-ghost use Rattle.seats.specs.Seat.{placeFrom, seating, paper};
+ghost use Rattle.seats.specs.Seat.{placeFrom, seating};
 use crate::Seat;
 use gaps::Runs;
 
@@ -235,14 +235,16 @@ pub fn seat_of<'a>(
     first: &'a [u64; Seat::PLACES],
     last: &'a [u64; Seat::PLACES],
 ) -> Seat
-    ensures { λ r. ⌜ paper r ≡ seating channel count (now (numbers .entry)) (now (highest .entry)) (now (ended .entry)) (now (counts .entry)) (now (first .entry)) (now (last .entry)) ⌝ }
+    ensures { λ r. ⌜ r ≡ seating channel count (now (numbers .entry)) (now (highest .entry)) (now (ended .entry)) (now (counts .entry)) (now (first .entry)) (now (last .entry)) ⌝ }
 {
     if sound(count, numbers, highest, ended, counts, first, last) {
-        let at = find(numbers, count, channel);
-        if at < count {
-            return Seat::At(at);
-        }
-        return Seat::NotInTracker;
+        return Seat {
+            sound: true,
+            at: find(numbers, count, channel),
+        };
     }
-    Seat::Malformed
+    Seat {
+        sound: false,
+        at: 0,
+    }
 }

@@ -1,22 +1,20 @@
 -- The first run of a channel by its seat, and the numbers that it lies within.
-use Prim.Native.Nat.{ℕ, zero, suc, _*_, _≤_}
+use Prim.Native.Nat.{ℕ, zero, suc, _*_, _≤_, _<_}
 use native.Mathlib.Omega.{arith}
-use mathlib.Core.Path.{_≡_, refl, ap, sym, _∙_}
+use mathlib.Core.Path.{_≡_, refl, sym, _∙_}
 use mathlib.Core.List.{List, [], _∷_}
-use mathlib.Core.Bool.{true}
-use lib.Dec.{leb}
+use mathlib.Core.Bool.{Bool, true, false}
+use lib.Dec.{leb, ltb}
 use lib.ListN.{getD}
-use borrow.Author.Tests.{leb-true, lt-ltb, le-ltb}
-use Rattle.wire.specs.Answer.{Answer, accepted, refused, guard}
+use borrow.Author.Tests.{leb-true, ltb-true, ltb-false, lt-ltb, le-ltb}
+use Rattle.wire.specs.Answer.{accepted, refused, guard}
 use Rattle.wire.specs.Refusal.{noSuchChannel, malformed}
 use Rattle.gaps.specs.declared.Run.{Run}
 use Rattle.gaps.specs.Gaps.{run, canon}
 use Rattle.gaps.specs.Limits.{runLimit, mostNumber}
 use Rattle.gaps.proofs.Numbers.{and-split}
 use Rattle.tracker.specs.declared.Tracker.{Tracker}
-use Rattle.seats.specs.Seat.{paper}
 use Rattle.seats.specs.declared.Seat.{Seat}
-use Rattle.seats.specs.declared.Seat.the-variants as seat
 use Rattle.seats.specs.Places.{firstNumber, span}
 use Rattle.tracker.specs.Places.{channel}
 use Rattle.seats.specs.Rules.{soundRow}
@@ -24,23 +22,41 @@ use Rattle.tracker.specs.Rules.{wellFormed}
 use Rattle.tracker.specs.Arrived.{place}
 use Rattle.tracker.specs.Inside.{Kept}
 use Rattle.tracker.specs.FirstRun.{Lost, lost, nothingMissing, foremost, firstRun}
-use Rattle.tracker.proofs.Seated.{well-row, seatIn, Sits, sits-10, sits-7, sits-at, sits, told}
+use Rattle.tracker.proofs.Seated.{well-row, seatIn, seat-sound, seat-place}
 
--- ---- by the seat
+-- ---- the refusals in their order
 
-abbrev pub firstAt : Tracker → Seat → Answer Lost
-firstAt t seat.Malformed = refused malformed []
-firstAt t seat.NotInTracker = refused noSuchChannel []
-firstAt t (seat.At i) = accepted (foremost (channel t i .runs))
+module _ (t : Tracker) (k : ℕ) where
+  first-10 : wellFormed t ≡ false → firstRun t k ≡ refused malformed []
+  unfolding firstRun guard
+  first-10 p = rw p
 
-by-seat : (t : Tracker) (k : ℕ) (s : Seat) → Sits t k s → firstRun t k ≡ firstAt t s
-unfolding firstRun guard
-by-seat t k s (sits-10 a) = rw a
-by-seat t k s (sits-7 a b) = rw (a, le-ltb (place t k) (t .count) b)
-by-seat t k s (sits-at a b) = rw (a, lt-ltb (place t k) (t .count) b)
+  first-7 : wellFormed t ≡ true → t .count ≤ place t k → firstRun t k ≡ refused noSuchChannel []
+  unfolding firstRun guard
+  first-7 p h = rw (p, le-ltb (place t k) (t .count) h)
 
-pub first-seat : (t : Tracker) (k : ℕ) {s x : Seat} → paper s ≡ seatIn t k → s ≡ x → firstRun t k ≡ firstAt t x
-first-seat t k {s = s} q p = by-seat t k s (told t k s q) ∙ ap (λ (y : Seat). firstAt t y) p
+  first-at : wellFormed t ≡ true → place t k < t .count → firstRun t k ≡ accepted (foremost (channel t (place t k) .runs))
+  unfolding firstRun guard
+  first-at p h = rw (p, lt-ltb (place t k) (t .count) h)
+
+-- by the seat
+
+module _ (t : Tracker) (k : ℕ) (s : Seat) (q : s ≡ seatIn t k) where
+  pub seat-10 : s .sound ≡ false → firstRun t k ≡ refused malformed []
+  seat-10 p = first-10 t k (seat-sound t k s q ∙ p)
+
+  module _ (p : s .sound ≡ true) where
+    well : wellFormed t ≡ true
+    well = seat-sound t k s q ∙ p
+
+    pub seat-7 : t .count ≤ s .at → firstRun t k ≡ refused noSuchChannel []
+    seat-7 h = first-7 t k well (rw (seat-place t k s q well) h)
+
+    -- the channel is there, within the places of channels
+    pub seat-at : s .at < t .count → (s .at < 8) × (firstRun t k ≡ accepted (foremost (channel t (s .at) .runs)))
+    seat-at h =
+        let d = seat-place t k s q well in
+        (well-row t well (s .at) h .place, rw d at (first-at t k well (rw d h)))
 
 -- ---- of the n runs from a place on
 
@@ -88,12 +104,15 @@ pub record Foremost (t : Tracker) (k : ℕ) (x : Lost) : Type 0 where
   pub same : foremost (channel t (place t k) .runs) ≡ x
 
 pub first-of : (t : Tracker) (k : ℕ) (x : Lost) → firstRun t k ≡ accepted x → Foremost t k x
-first-of t k x e = let z = sits t k in go (z .seat) (z .tells) (sym (by-seat t k (z .seat) (z .tells)) ∙ e)
+first-of t k x e = go (wellFormed t) refl (ltb (place t k) (t .count)) refl
   where
-    go : (s : Seat) → Sits t k s → firstAt t s ≡ accepted x → Foremost t k x
-    go s (sits-10 a) p = absurd (let z : _≡_ {A = ℕ} 0 1 = cc in omega arith)
-    go s (sits-7 a b) p = absurd (let z : _≡_ {A = ℕ} 0 1 = cc in omega arith)
-    go s (sits-at a b) p = record { kept = well-row t a (place t k) b; same = cc }
+    go : (a : Bool) → wellFormed t ≡ a → (b : Bool) → ltb (place t k) (t .count) ≡ b → Foremost t k x
+    go true p true q =
+        let h = ltb-true (place t k) (t .count) q in
+        let z = sym (first-at t k p h) ∙ e in
+        record { kept = well-row t p (place t k) h; same = cc }
+    go true p false q = absurd (let y = sym (first-7 t k p (ltb-false (place t k) (t .count) q)) ∙ e in let z : _≡_ {A = ℕ} 0 1 = cc in omega arith)
+    go false p b q = absurd (let y = sym (first-10 t k p) ∙ e in let z : _≡_ {A = ℕ} 0 1 = cc in omega arith)
 
 -- a channel's first run lies from 1 to the largest number that an arrival can bring
 pub first-lies : (t : Tracker) (k : ℕ) (r : Run) → firstRun t k ≡ accepted (lost r) → Lies r

@@ -27,17 +27,20 @@ use Rattle.gaps.proofs.Alone.{judged-low}
 use Rattle.tracker.specs.declared.Tracker.{Tracker}
 use Rattle.tracker.specs.declared.Gap.{Gap}
 use Rattle.tracker.specs.Places.{mark, channel, put}
-use Rattle.seats.specs.Seat.{paper}
 use Rattle.seats.specs.declared.Seat.{Seat}
-use Rattle.seats.specs.declared.Seat.the-variants.{At}
-use Rattle.tracker.specs.Arrived.{on, settled, arrived}
+use Rattle.tracker.specs.declared.Verdict.the-variants.{NotInTracker, BelowRange, Malformed}
+use Rattle.tracker.specs.declared.Verdict.{Verdict}
+use Rattle.tracker.specs.declared.Judged.{Judged}
+use Rattle.tracker.specs.declared.Judged.the-variants.{Refused, At}
+use Rattle.tracker.specs.Rules.{wellFormed}
+use Rattle.tracker.specs.Arrived.{on, place, settled, arrived}
 use Rattle.tracker.specs.declared.Held.{Held}
 use Rattle.tracker.specs.declared.Held.the-variants.{No, AtEnd, Within}
-use Rattle.tracker.specs.Inside.{stored, Room, Finds, finds-no, finds-end, finds-within}
+use Rattle.tracker.specs.Inside.{Judges, stored, Room, Finds, finds-no, finds-end, finds-within}
 use Rattle.tracker.proofs.Row.{span-length, span-at}
 use Rattle.tracker.proofs.Hold.{held-at}
 use Rattle.tracker.proofs.Signed.{natural-one, natural-pos}
-use Rattle.tracker.proofs.Seated.{seatIn, seat-at}
+use Rattle.tracker.proofs.Seated.{well-row, arrived-10, arrived-7, arrived-at, seatIn, seat-sound, seat-place}
 use Rattle.tracker.proofs.Put.{RowOf, mended, mark-same, put-pushed, put-set, put-runs, put-same, kept-within}
 
 -- the tracker with another run at one place
@@ -292,19 +295,48 @@ module _ (t : Tracker) (i n : ℕ) (w : RowOf t i) (p : 1 ≤ n) (h : n ≤ getD
           rw (k, f, l) at y
       go s (finds-within a) e = absurd (let z : _≡_ {A = ℕ} 0 1 = cc in omega arith)
 
--- ---- from a channel's seat to its judgement, for numbers as the code holds them
+-- ---- an arrival's refusals by its channel's seat
 
-module _ (t : Tracker) (k : ℕ) (s : Seat) (q : paper s ≡ seatIn t k) (i : ℕ) (r : s ≡ At i) where
-  pub seat-row : RowOf t i × (i < 8)
-  seat-row = let a = seat-at t k (tick (pos 0)) s q i r .0 in (kept-within t i a, a .place)
+module _ (t : Tracker) (k : ℕ) (low : Bool) (s : Seat) (q : s ≡ seatIn t k) where
+  pub judges-10 : s .sound ≡ false → Judges t k low (Refused Malformed)
+  judges-10 p = λ e z. arrived-10 t k e (seat-sound t k s q ∙ p)
+
+  module _ (p : s .sound ≡ true) where
+    well : wellFormed t ≡ true
+    well = seat-sound t k s q ∙ p
+
+    pub judges-7 : t .count ≤ s .at → Judges t k low (Refused NotInTracker)
+    judges-7 h = λ e z. arrived-7 t k e well (rw (seat-place t k s q well) h)
+
+    pub judges-8 : s .at < t .count → low ≡ true → Judges t k low (Refused BelowRange)
+    judges-8 h l = λ e z. arrived-at t k e well (rw (seat-place t k s q well) h) ∙ settled-low t (place t k) (channel t (place t k)) e (z ∙ l)
+
+    pub judges-at : s .at < t .count → low ≡ false → Judges t k low (At (s .at))
+    judges-at h l =
+        let d = seat-place t k s q well in
+        (l, well-row t well (s .at) h, λ e. (rw d at (arrived-at t k e well (rw d h))))
+
+-- what the judge's answer tells
+module _ (t : Tracker) (k : ℕ) (low : Bool) where
+  pub told-refused : (v : Verdict) (r : Judged) → Judges t k low r → r ≡ Refused v → Judges t k low (Refused v)
+  told-refused v r w e = rw e at w
+
+  pub told-at : (i : ℕ) (r : Judged) → Judges t k low r → r ≡ At i → Judges t k low (At i)
+  told-at i r w e = rw e at w
+
+-- ---- from a place to its judgement, for numbers as the code holds them
+
+module _ (t : Tracker) (k : ℕ) (low : Bool) (i : ℕ) (w : Judges t k low (At i)) where
+  pub seat-row : RowOf t i
+  seat-row = kept-within t i (w .1)
 
   pub tick-seat : (z : ℤ) (n : ℕ) → n ≡ natural z → 1 ≤ n → arrived t (on k (tick z)) ≡ settled t i (judged (channel t i) (tick (pos n)))
   tick-seat z n e p =
       let d : z ≡ pos n = natural-one z (rw e at p) ∙ ap pos (sym e) in
-      seat-at t k (tick z) s q i r .1 ∙ ap (λ (y : ℤ). settled t i (judged (channel t i) (tick y))) d
+      w .2 (tick z) ∙ ap (λ (y : ℤ). settled t i (judged (channel t i) (tick y))) d
 
   pub heartbeat-seat : (z : ℤ) (end : Bool) (m : ℕ) → m ≡ natural z → ltZ z (pos 0) ≡ false →
       arrived t (on k (heartbeat z end)) ≡ settled t i (judged (channel t i) (heartbeat (pos m) end))
   heartbeat-seat z end m e p =
       let d : z ≡ pos m = natural-pos z p ∙ ap pos (sym e) in
-      seat-at t k (heartbeat z end) s q i r .1 ∙ ap (λ (y : ℤ). settled t i (judged (channel t i) (heartbeat y end))) d
+      w .2 (heartbeat z end) ∙ ap (λ (y : ℤ). settled t i (judged (channel t i) (heartbeat y end))) d

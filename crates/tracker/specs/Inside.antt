@@ -10,27 +10,44 @@ use Rattle.gaps.specs.declared.Run.{Run}
 use Rattle.gaps.specs.Gaps.{run, has, cut, grow, canon}
 use Rattle.wire.specs.Refusal.{noSuchChannel, tableFull, malformed}
 use Rattle.gaps.specs.Limits.{runLimit}
-use Rattle.gaps.specs.Channel.{Said}
+use Rattle.gaps.specs.Channel.{Event, Said, tooLow, judged}
 use Rattle.tracker.specs.declared.Tracker.{Tracker}
 use Rattle.tracker.specs.declared.Wanted.{Wanted}
 use Rattle.tracker.specs.declared.Wanted.the-variants as wanted
+use Rattle.tracker.specs.declared.Judged.{Judged}
+use Rattle.tracker.specs.declared.Judged.the-variants.{Refused, At}
 use Rattle.tracker.specs.declared.Gap.{Gap}
 use Rattle.tracker.specs.declared.Held.{Held}
 use Rattle.tracker.specs.declared.Held.the-variants.{No, AtEnd, Within}
-use Rattle.seats.specs.declared.Seat.{Seat}
-use Rattle.seats.specs.declared.Seat.the-variants.{Malformed, NotInTracker, At}
 use Rattle.seats.specs.Places.{channelLimit, span}
-use Rattle.tracker.specs.Places.{put}
-use Rattle.seats.specs.Rules.{soundRow, sound}
-use Rattle.seats.specs.Seat.{placeFrom}
-use Rattle.tracker.specs.Arrived.{Outcome}
+use Rattle.tracker.specs.Places.{channel, put}
+use Rattle.seats.specs.Rules.{soundRow}
+use Rattle.tracker.specs.Arrived.{Outcome, on, settled, arrived, saidOf}
 use Rattle.tracker.specs.FirstRun.{Lost, lost, nothingMissing}
+
+-- a tracker of these fields
+abbrev pub made : ℕ → List ℕ → List ℕ → List ℕ → List ℕ → List ℕ → List ℕ → Tracker
+made count numbers highest ended counts first last =
+    record {
+      count = count;
+      numbers = numbers;
+      highest = highest;
+      ended = ended;
+      counts = counts;
+      first = first;
+      last = last;
+    }
 
 -- the channel at place i keeps the rules
 pub record Kept (t : Tracker) (i : ℕ) : Type 0 where
   pub place : i < channelLimit
   pub mark : getD (t .ended) i 0 ≤ 1
   pub row : soundRow (getD (t .highest) i 0) (getD (t .counts) i 0) (t .first) (t .last) (i * runLimit) ≡ true
+
+-- an event on channel k that is too low where `low` says so: refused, with the tracker as it stood, or judged by its channel, which keeps the rules
+abbrev pub Judges : Tracker → ℕ → Bool → Judged → Type 0
+Judges t k low (Refused v) = (e : Event) → tooLow e ≡ low → arrived t (on k e) ≡ record { said = saidOf v; next = t }
+Judges t k low (At i) = (low ≡ false) × Kept t i × ((e : Event) → arrived t (on k e) ≡ settled t i (judged (channel t i) e))
 
 -- the n runs from place b on are in order
 pub record Ordered (f l : List ℕ) (b n : ℕ) : Type 0 where

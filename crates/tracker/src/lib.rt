@@ -5,16 +5,16 @@ ghost use Rattle.gaps.specs.Channel.{tick, heartbeat};
 ghost use Rattle.tracker.specs.Places.{channel};
 ghost use Rattle.tracker.specs.SetUp.{blankWith, setUp, paper as begun};
 ghost use Rattle.tracker.specs.Arrived.{on, arrived, saidOf, paper};
-ghost use Rattle.tracker.specs.FirstRun.{firstRun};
 ghost use Rattle.tracker.specs.Request.{answering, leaving, paper as requested};
-ghost use Rattle.tracker.specs.Inside.{Kept, lostOf, stored};
+ghost use Rattle.tracker.specs.Inside.{Kept, stored};
+use crate::refused::judge;
 use gaps::Run;
 use gaps::Runs;
 use seats::Seat;
 use seats::ascending;
-use seats::seat_of;
 
 mod places;
+mod refused;
 mod request;
 mod signs;
 
@@ -80,6 +80,12 @@ enum Wanted {
     NothingMissing,
     NotInTracker,
     Malformed,
+}
+
+// The refusal of an arrival by 10, 7 or 8, or the place of its channel.
+enum Judged {
+    Refused(Verdict),
+    At(usize),
 }
 
 // Where new missing numbers go: the place in the row and the first number of the run there, or full.
@@ -151,8 +157,9 @@ impl Tracker {
     pub fn tick(mut self, channel: u16, number: i64) -> Reply
         ensures { λ r. ⌜ paper r ≡ arrived self (on channel (tick number)) ⌝ }
     {
-        let seat = seat_of(
+        let judged = judge(
             channel,
+            signs::below(number, 1),
             self.count,
             &self.numbers,
             &self.highest,
@@ -161,14 +168,10 @@ impl Tracker {
             &self.first,
             &self.last,
         );
-        match seat {
-            Seat::Malformed => self.unchanged(Verdict::Malformed),
-            Seat::NotInTracker => self.unchanged(Verdict::NotInTracker),
-            Seat::At(at) => {
+        match judged {
+            Judged::Refused(verdict) => self.unchanged(verdict),
+            Judged::At(at) => {
                 let n = signs::natural(number);
-                if n < 1 {
-                    return self.unchanged(Verdict::BelowRange);
-                }
                 let highest = self.highest[at];
                 // The common path: the next number, and nothing else changes.
                 if highest == n - 1 {
@@ -204,8 +207,9 @@ impl Tracker {
     pub fn heartbeat(mut self, channel: u16, last: i64, end: bool) -> Reply
         ensures { λ r. ⌜ paper r ≡ arrived self (on channel (heartbeat last end)) ⌝ }
     {
-        let seat = seat_of(
+        let judged = judge(
             channel,
+            signs::below(last, 0),
             self.count,
             &self.numbers,
             &self.highest,
@@ -214,13 +218,9 @@ impl Tracker {
             &self.first,
             &self.last,
         );
-        match seat {
-            Seat::Malformed => self.unchanged(Verdict::Malformed),
-            Seat::NotInTracker => self.unchanged(Verdict::NotInTracker),
-            Seat::At(at) => {
-                if signs::below(last) {
-                    return self.unchanged(Verdict::BelowRange);
-                }
+        match judged {
+            Judged::Refused(verdict) => self.unchanged(verdict),
+            Judged::At(at) => {
                 let m = signs::natural(last);
                 let highest = self.highest[at];
                 let ended = (self.ended[at] == 1) | end;
@@ -241,19 +241,7 @@ impl Tracker {
         ensures { λ r. ⌜ requested r ≡ answering self channel (now (out .entry)) ⌝ }
         ensures { λ r. ⌜ now (out .exit) ≡ leaving self channel (now (out .entry)) ⌝ }
     {
-        match self.first_run(channel) {
-            Wanted::First(run) => request::ask(channel, run, out),
-            Wanted::NothingMissing => Requested::NothingMissing,
-            Wanted::NotInTracker => Requested::NotInTracker,
-            Wanted::Malformed => Requested::Malformed,
-        }
-    }
-
-    // The first run of a channel.
-    fn first_run(self, channel: u16) -> Wanted
-        ensures { λ r. ⌜ lostOf r ≡ firstRun self channel ⌝ }
-    {
-        let seat = seat_of(
+        let wanted = request::first_run(
             channel,
             self.count,
             &self.numbers,
@@ -263,20 +251,11 @@ impl Tracker {
             &self.first,
             &self.last,
         );
-        match seat {
-            Seat::Malformed => Wanted::Malformed,
-            Seat::NotInTracker => Wanted::NotInTracker,
-            Seat::At(at) => {
-                let held = self.counts[at];
-                if held == 0 {
-                    return Wanted::NothingMissing;
-                }
-                let b = at * Runs::LIMIT;
-                Wanted::First(Run {
-                    first: self.first[b],
-                    last: self.last[b],
-                })
-            }
+        match wanted {
+            Wanted::First(run) => request::ask(channel, run, out),
+            Wanted::NothingMissing => Requested::NothingMissing,
+            Wanted::NotInTracker => Requested::NotInTracker,
+            Wanted::Malformed => Requested::Malformed,
         }
     }
 

@@ -1,16 +1,52 @@
-// The frame that asks for the numbers of a run.
+// The first run of a channel, and the frame that asks for the numbers of a run.
 ghost use mathlib.Core.Path.{_≡_};
 ghost use Prim.Native.Nat.{_≤_};
 ghost use lib.ListN.{length};
 ghost use Rattle.gaps.specs.Limits.{mostNumber};
 ghost use Rattle.record.specs.Paper.{paperRecord};
 ghost use Rattle.record.specs.declared.Record.the-variants as variant;
-ghost use Rattle.tracker.specs.FirstRun.{lost};
+ghost use Rattle.tracker.specs.FirstRun.{lost, firstRun};
+ghost use Rattle.tracker.specs.Inside.{made, lostOf};
 ghost use Rattle.tracker.specs.Request.{asked, resendOf, fitting, answerOf, outputOf, paper};
 use crate::Requested;
+use crate::Tracker;
+use crate::Wanted;
 use gaps::Run;
+use gaps::Runs;
 use record::Resend;
+use seats::seat_of;
 use writer::Written;
+
+// 10, then 7; or the first run of the channel, where it has one, in a tracker of these fields.
+pub(crate) fn first_run<'a>(
+    channel: u16,
+    count: usize,
+    numbers: &'a [u16; Tracker::CHANNELS],
+    highest: &'a [u64; Tracker::CHANNELS],
+    ended: &'a [u8; Tracker::CHANNELS],
+    counts: &'a [usize; Tracker::CHANNELS],
+    first: &'a [u64; Tracker::PLACES],
+    last: &'a [u64; Tracker::PLACES],
+) -> Wanted
+    ensures { λ r. ⌜ lostOf r ≡ firstRun (made count (now (numbers .entry)) (now (highest .entry)) (now (ended .entry)) (now (counts .entry)) (now (first .entry)) (now (last .entry))) channel ⌝ }
+{
+    let seat = seat_of(channel, count, numbers, highest, ended, counts, first, last);
+    if !seat.sound {
+        return Wanted::Malformed;
+    }
+    let at = seat.at;
+    if count <= at {
+        return Wanted::NotInTracker;
+    }
+    if counts[at] == 0 {
+        return Wanted::NothingMissing;
+    }
+    let b = at * Runs::LIMIT;
+    Wanted::First(Run {
+        first: first[b],
+        last: last[b],
+    })
+}
 
 // The numbers of a run that one request asks for.
 fn asked(run: Run) -> Run

@@ -1,14 +1,13 @@
 // Signed numbers as they come in an arrival.
 ghost use mathlib.Core.Path.{_≡_};
-ghost use lib.IntN.{pos};
 ghost use lib.Signed.{ltZ};
 ghost use Rattle.gaps.specs.Channel.{natural};
 
-// Is the number below 0?
-pub(crate) fn below(number: i64) -> bool
-    ensures { λ r. ⌜ r ≡ ltZ number (pos 0) ⌝ }
+// Is the number below the least?
+pub(crate) fn below(number: i64, least: i64) -> bool
+    ensures { λ r. ⌜ r ≡ ltZ number least ⌝ }
 {
-    number < 0
+    number < least
 }
 
 // The number, or 0 where it is below.

@@ -1,4 +1,3 @@
-use borrow.Author.Needs.{needs}
 use native.Mathlib.Omega.{arith}
 use denote.Ref.{now}
 use mathlib.Core.Path.{ap, sym, _∙_}
@@ -6,50 +5,62 @@ use Rattle.wire.specs.Answer.{andThen}
 use Rattle.tracker.specs.Inside.{lostOf}
 use Rattle.tracker.proofs.FirstRun.{first-lies}
 use Rattle.tracker.proofs.Fitting.{answers-by, leaves-by}
+use borrow.Author.Needs.{needs}
 use Rattle.tracker.proofs.Tracker.request.Statement.{statement}
 use Rattle.tracker.proofs.Tracker.request.Tie as tie
 
 ask-requires : tie.Need-ask-requires
 ask-requires c κs =
-    let s = c .before .before .before .before .before .before .args in
-    let r = c .before .before .run .given in
-    let w = first-lies (s .self) (s .channel) (r .0 .0) (sym (c .before .before .before .before .first-run .ensures) ∙ ap lostOf (r .1)) in
+    let r = c .before .before .wanted .given in
+    let f = c .before .before .before .before in
+    let s = f .before .before .before .before .before .before .before .before .before .args in
+    let t = s .t1 in
+    let e = sym (f .first-run .ensures) ∙ ap lostOf (c .before .before .wanted .given .1) in
+    let w = first-lies t (s .channel) (r .0 .0) e in
     (w .order, w .high)
 
 returns : tie.Need-returns
 unfolding andThen
 returns c =
-    let s = c .before .before .before .before .before .before .before .before .before .args in
-    let e = sym (c .before .before .before .before .before .before .before .first-run .ensures) ∙ ap lostOf (c .before .before .before .before .before .run .given .1) in
-    let a = answers-by (s .self) (s .channel) (now (s .out)) e in
-    let l = leaves-by (s .self) (s .channel) (now (s .out)) e in
+    let f = c .before .before .before .before .before .before .before in
+    let s = f .before .before .before .before .before .before .before .before .before .args in
+    let t = s .t1 in
+    let e = sym (f .first-run .ensures) ∙ ap lostOf (c .before .before .before .before .before .wanted .given .1) in
+    let a = answers-by t (s .channel) (now (s .out)) e in
+    let l = leaves-by t (s .channel) (now (s .out)) e in
     (c .before .before .ask .ensures .0 ∙ sym a, c .before .before .ask .ensures .1 ∙ sym l)
 
 returns-2 : tie.Need-returns-2
 unfolding andThen
 returns-2 c =
-    let s = c .before .before .before .before .args in
-    let e = sym (c .before .before .first-run .ensures) ∙ ap lostOf (c .enum-told .given .1) in
-    let a = answers-by (s .self) (s .channel) (now (s .out)) e in
-    let l = leaves-by (s .self) (s .channel) (now (s .out)) e in
+    let f = c .before .before in
+    let s = f .before .before .before .before .before .before .before .before .before .args in
+    let t = s .t1 in
+    let e = sym (f .first-run .ensures) ∙ ap lostOf (c .enum-told .given .1) in
+    let a = answers-by t (s .channel) (now (s .out)) e in
+    let l = leaves-by t (s .channel) (now (s .out)) e in
     (sym a, sym l)
 
 returns-3 : tie.Need-returns-3
 unfolding andThen
 returns-3 c =
-    let s = c .before .before .before .before .args in
-    let e = sym (c .before .before .first-run .ensures) ∙ ap lostOf (c .enum-told2 .given .1) in
-    let a = answers-by (s .self) (s .channel) (now (s .out)) e in
-    let l = leaves-by (s .self) (s .channel) (now (s .out)) e in
+    let f = c .before .before in
+    let s = f .before .before .before .before .before .before .before .before .before .args in
+    let t = s .t1 in
+    let e = sym (f .first-run .ensures) ∙ ap lostOf (c .enum-told2 .given .1) in
+    let a = answers-by t (s .channel) (now (s .out)) e in
+    let l = leaves-by t (s .channel) (now (s .out)) e in
     (sym a, sym l)
 
 returns-4 : tie.Need-returns-4
 unfolding andThen
 returns-4 c =
-    let s = c .before .before .before .before .args in
-    let e = sym (c .before .before .first-run .ensures) ∙ ap lostOf (c .enum-told3 .given .1) in
-    let a = answers-by (s .self) (s .channel) (now (s .out)) e in
-    let l = leaves-by (s .self) (s .channel) (now (s .out)) e in
+    let f = c .before .before in
+    let s = f .before .before .before .before .before .before .before .before .before .args in
+    let t = s .t1 in
+    let e = sym (f .first-run .ensures) ∙ ap lostOf (c .enum-told3 .given .1) in
+    let a = answers-by t (s .channel) (now (s .out)) e in
+    let l = leaves-by t (s .channel) (now (s .out)) e in
     (sym a, sym l)
 
 pub request-spec : {M : Type 1} → statement M

@@ -1,0 +1,81 @@
+use native.Mathlib.Omega.{arith}
+use Prim.Native.Nat.{_*_}
+use mathlib.Core.Path.{ap, sym, _∙_}
+use borrow.Author.Tests.{not-true, not-false}
+use lib.ListN.{getD}
+use Rattle.wire.specs.Answer.{accepted}
+use Rattle.gaps.specs.Limits.{runLimit}
+use Rattle.tracker.specs.FirstRun.{Lost}
+use Rattle.tracker.specs.Inside.{made}
+use Rattle.tracker.proofs.FirstRun.{seat-10, seat-7, seat-at, no-run, run-first}
+use borrow.Author.Needs.{needs}
+use Rattle.tracker.proofs.request.first_run.Statement.{statement}
+use Rattle.tracker.proofs.request.first_run.Tie as tie
+
+returns : tie.Need-returns
+returns c =
+    let k = c .before .before in
+    let s = k .before .args in
+    let t = made (s .count) (s .numbers .now) (s .highest .now) (s .ended .now) (s .counts .now) (s .first .now) (s .last .now) in
+    sym (seat-10 t (s .channel) (k .seat-of .result) (k .seat-of .ensures) (not-true _ (c .if1 .taken)))
+
+returns-2 : tie.Need-returns-2
+returns-2 c =
+    let k = c .before .before .before in
+    let s = k .before .args in
+    let t = made (s .count) (s .numbers .now) (s .highest .now) (s .ended .now) (s .counts .now) (s .first .now) (s .last .now) in
+    sym (seat-7 t (s .channel) (k .seat-of .result) (k .seat-of .ensures) (not-false _ (c .before .if1 .left)) (omega arith))
+
+element-copy-out-if3 : tie.Need-element-copy-out-if3
+element-copy-out-if3 c =
+    let k = c .before .before .before in
+    let s = k .before .args in
+    let t = made (s .count) (s .numbers .now) (s .highest .now) (s .ended .now) (s .counts .now) (s .first .now) (s .last .now) in
+    let w = seat-at t (s .channel) (k .seat-of .result) (k .seat-of .ensures) (not-false _ (c .before .if1 .left)) (omega arith) in
+    omega (arith, w .0)
+
+mul-if3 : tie.Need-mul-if3
+mul-if3 c = omega (arith, element-copy-out-if3 c)
+
+returns-3 : tie.Need-returns-3
+returns-3 c =
+    let k = c .before .before .before .before .before in
+    let s = k .before .args in
+    let t = made (s .count) (s .numbers .now) (s .highest .now) (s .ended .now) (s .counts .now) (s .first .now) (s .last .now) in
+    let i = k .seat-of .result .at in
+    let w = seat-at t (s .channel) (k .seat-of .result) (k .seat-of .ensures) (not-false _ (c .before .before .before .if1 .left)) (omega arith) in
+    sym (w .1 ∙ ap (λ (x : Lost). accepted x) (no-run (t .first) (t .last) (i * runLimit) (getD (t .counts) i 0) (c .if3 .taken)))
+
+element-copy-out-t19 : tie.Need-element-copy-out-t19
+element-copy-out-t19 c =
+    let k = c .before .before .before .before .before in
+    let s = k .before .args in
+    let t = made (s .count) (s .numbers .now) (s .highest .now) (s .ended .now) (s .counts .now) (s .first .now) (s .last .now) in
+    let w = seat-at t (s .channel) (k .seat-of .result) (k .seat-of .ensures) (not-false _ (c .before .before .before .if1 .left)) (omega arith) in
+    omega (arith, w .0)
+
+mul-b : tie.Need-mul-b
+mul-b c = omega (arith, element-copy-out-t19 c)
+
+mul-t13 : tie.Need-mul-t13
+mul-t13 c = omega (arith, element-copy-out-t19 c)
+
+element-copy-out-t22 : tie.Need-element-copy-out-t22
+element-copy-out-t22 c = omega (arith, element-copy-out-t19 (c .before))
+
+mul-t16 : tie.Need-mul-t16
+mul-t16 c = omega (arith, element-copy-out-t19 (c .before))
+
+returns-4 : tie.Need-returns-4
+returns-4 c =
+    let k = c .before .before .before .before .before .before .before in
+    let s = k .before .args in
+    let t = made (s .count) (s .numbers .now) (s .highest .now) (s .ended .now) (s .counts .now) (s .first .now) (s .last .now) in
+    let i = k .seat-of .result .at in
+    let w = seat-at t (s .channel) (k .seat-of .result) (k .seat-of .ensures) (not-false _ (c .before .before .before .before .before .if1 .left)) (omega arith) in
+    sym (w .1 ∙ ap (λ (x : Lost). accepted x) (run-first (t .first) (t .last) (i * runLimit) (getD (t .counts) i 0) (c .before .before .if3 .left)))
+
+pub first-run-spec : {M : Type 1} → statement M
+first-run-spec =
+    tie.close (tie.spec (λ c κs. search needs) returns returns-2 mul-if3 element-copy-out-if3 returns-3 mul-b mul-t13
+    element-copy-out-t19 mul-t16 element-copy-out-t22 returns-4)

@@ -1,0 +1,34 @@
+// The refusals of an arrival that come before its channel's, in their order.
+ghost use Rattle.tracker.specs.Inside.{made, Judges};
+use crate::Judged;
+use crate::Tracker;
+use crate::Verdict;
+use seats::seat_of;
+
+// 10, then 7, then 8 where the number is too low; or the place of the channel, in a tracker of these fields.
+pub(crate) fn judge<'a>(
+    channel: u16,
+    low: bool,
+    count: usize,
+    numbers: &'a [u16; Tracker::CHANNELS],
+    highest: &'a [u64; Tracker::CHANNELS],
+    ended: &'a [u8; Tracker::CHANNELS],
+    counts: &'a [usize; Tracker::CHANNELS],
+    first: &'a [u64; Tracker::PLACES],
+    last: &'a [u64; Tracker::PLACES],
+) -> Judged
+    ensures { λ r. ⌜ Judges (made count (now (numbers .entry)) (now (highest .entry)) (now (ended .entry)) (now (counts .entry)) (now (first .entry)) (now (last .entry))) channel low r ⌝ }
+{
+    let seat = seat_of(channel, count, numbers, highest, ended, counts, first, last);
+    if !seat.sound {
+        return Judged::Refused(Verdict::Malformed);
+    }
+    let at = seat.at;
+    if count <= at {
+        return Judged::Refused(Verdict::NotInTracker);
+    }
+    if low {
+        return Judged::Refused(Verdict::BelowRange);
+    }
+    Judged::At(at)
+}
