@@ -2,7 +2,7 @@
 mod rules;
 
 use gaps::Runs;
-pub use rules::ascending;
+pub use rules::listed;
 pub use rules::seat_of;
 
 // Whether a tracker keeps the rules, and the place of a channel in it: the count of channels where it is not there.

@@ -4,7 +4,7 @@ ghost use Prim.Native.Nat.{_+_, _-_, _≤_};
 ghost use Rattle.gaps.specs.Gaps.{canon};
 ghost use Rattle.gaps.specs.Limits.{runLimit, mostNumber};
 ghost use Rattle.seats.specs.Places.{channelLimit, placeCount, firstNumber, span};
-ghost use Rattle.seats.specs.Rules.{ascends, allZero, soundRow, soundRows, marks, blank, sound};
+ghost use Rattle.seats.specs.Rules.{ascends, listed, allZero, soundRow, soundRows, marks, blank, sound};
 ghost use Rattle.seats.specs.Seat.{placeFrom, seating};
 use crate::Seat;
 use gaps::Runs;
@@ -20,7 +20,7 @@ fn wide(x: u16) -> u32
 }
 
 // Does each number stand above the one before?
-pub fn ascending(numbers: &[u16]) -> bool
+fn ascending(numbers: &[u16]) -> bool
     ensures { λ r. ⌜ r ≡ ascends 0 (now (numbers .entry)) ⌝ }
 {
     let mut low: u32 = 0;
@@ -34,6 +34,20 @@ pub fn ascending(numbers: &[u16]) -> bool
         i += 1;
     }
     true
+}
+
+// Can a tracker be set up with these channel numbers?
+pub fn listed(numbers: &[u16]) -> bool
+    ensures { λ r. ⌜ r ≡ listed (now (numbers .entry)) ⌝ }
+{
+    let n = numbers.len();
+    if n == 0 {
+        return false;
+    }
+    if Seat::COUNT < n {
+        return false;
+    }
+    ascending(numbers)
 }
 
 // Are the places from one to another zero?

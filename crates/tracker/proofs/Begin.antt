@@ -1,23 +1,47 @@
--- The places that a list of channel numbers fills.
-use Prim.Native.Nat.{ℕ, suc, _+_, _-_, _≤_, _<_}
-use native.Mathlib.Omega.{arith}
-use native.Mathlib.Numerals.{add-one}
-use mathlib.Core.Path.{_≡_}
-use mathlib.Core.List.{List, _++_, append-assoc}
-use mathlib.Core.Bool.{true, false}
-use lib.ListN.{length, take, drop, getD, set, replicate}
-use lib.Seq.{drop-cons, drop-length, take-suc, length-take-le, set-at, take-length}
-use borrow.Author.Tests.{le-leb, lt-leb}
-use Rattle.gaps.specs.Built.{padded}
+-- The set-up, by whether the channel numbers can be listed.
+use Prim.Native.Nat.{ℕ, _≤_}
+use mathlib.Core.Path.{_≡_, refl, sym, _∙_}
+use mathlib.Core.List.{List, []}
+use mathlib.Core.Bool.{Bool, true, false, not, _&&_, true≢false, false≢true}
+use lib.Dec.{ltb, eqb}
+use lib.ListN.{length}
+use borrow.Author.Tests.{ltb-false, not-true}
+use Rattle.wire.specs.Answer.{Answer, accepted, refused, guard}
+use Rattle.wire.specs.Refusal.{malformed}
+use Rattle.gaps.proofs.Numbers.{and-split}
+use Rattle.seats.specs.Rules.{ascends, listed}
+use Rattle.tracker.specs.declared.Tracker.{Tracker}
+use Rattle.tracker.specs.SetUp.{Ready, given, blankOf, setUp}
 
-abbrev pub filled : List ℕ → ℕ → List ℕ
-filled l i = take i l ++ replicate (8 - i) 0
+judged : Bool → Bool → Bool → Tracker → Ready
+judged a b c t = given (guard a (refused malformed []) (guard b (refused malformed []) (guard (not c) (refused malformed []) (accepted t))))
 
-pub filled-more : (l : List ℕ) (i : ℕ) → i < length l → i < 8 → set (filled l i) i (getD l i 0) ≡ filled l (i + 1)
-filled-more l i h g =
-    let e : 8 - i ≡ suc (8 - suc i) = omega arith in
-    rw (add-one, take-suc l i 0 h, append-assoc, e)
-    (set-at (take i l) 0 (replicate (8 - suc i) 0) (getD l i 0) i (length-take-le i l (omega arith)))
+begins : (a b c : Bool) (t : Tracker) → (not a && (not b && c)) ≡ true → judged a b c t ≡ record { said = accepted tt; tracker = t }
+unfolding judged guard
+begins true b c t e = absurd (false≢true e)
+begins false true c t e = absurd (false≢true e)
+begins false false true t e = refl
+begins false false false t e = absurd (false≢true e)
 
-pub filled-all : (l : List ℕ) (i : ℕ) → i ≡ length l → filled l i ≡ padded 8 l
-filled-all l i e = rw (e, take-length l)
+ends : (a b c : Bool) (t : Tracker) → (not a && (not b && c)) ≡ false → judged a b c t ≡ record { said = refused malformed []; tracker = blankOf [] }
+unfolding judged guard
+ends true b c t e = refl
+ends false true c t e = refl
+ends false false true t e = absurd (true≢false e)
+ends false false false t e = refl
+
+module _ (l : List ℕ) where
+  pub set-up-listed : listed l ≡ true → setUp l ≡ record { said = accepted tt; tracker = blankOf l }
+  unfolding setUp listed judged
+  set-up-listed e = begins (eqb (length l) 0) (ltb 8 (length l)) (ascends 0 l) (blankOf l) e
+
+  pub set-up-refused : listed l ≡ false → setUp l ≡ record { said = refused malformed []; tracker = blankOf [] }
+  unfolding setUp listed judged
+  set-up-refused e = ends (eqb (length l) 0) (ltb 8 (length l)) (ascends 0 l) (blankOf l) e
+
+  -- as many as the places hold
+  pub listed-most : listed l ≡ true → length l ≤ 8
+  unfolding listed
+  listed-most e =
+      let p = and-split (not (eqb (length l) 0)) _ e in
+      ltb-false 8 (length l) (not-true (ltb 8 (length l)) (and-split (not (ltb 8 (length l))) _ (p .1) .0))

@@ -1,19 +1,23 @@
--- The walk over a row in search of the run that holds a number.
-use Prim.Native.Nat.{ℕ, zero, suc, _+_, _-_, _≤_, _<_}
+-- What the search of a row within the rules finds.
+use Prim.Native.Nat.{ℕ, zero, suc, _+_, _*_, _-_, _≤_, _<_}
 use native.Mathlib.Omega.{arith}
-use mathlib.Core.Path.{_≡_, refl, ap, sym, _∙_}
-use mathlib.Core.List.{List, _∷_}
-use mathlib.Core.Bool.{Bool, true, false, _&&_, and-false, or-true}
-use lib.Dec.{leb}
+use mathlib.Core.Path.{_≡_, refl}
+use mathlib.Core.List.{List, [], _∷_}
+use mathlib.Core.Bool.{Bool, true, false, cond, _&&_, and-false, or-true}
+use lib.Dec.{leb, ltb, eqb}
 use lib.ListN.{getD}
-use borrow.Author.Tests.{le-leb, lt-leb}
+use borrow.Author.Tests.{le-leb, lt-leb, leb-true, leb-false, ltb-true, ltb-false, eqb-true, eqb-false}
 use Rattle.gaps.specs.declared.Run.{Run}
-use Rattle.gaps.specs.Gaps.{run, has, canon}
+use Rattle.gaps.specs.Gaps.{run, has, cut, canon}
 use Rattle.gaps.proofs.Cut.{cut-front, cut-back}
 use Rattle.gaps.proofs.Sets.{canon-yes, yes-canon, low, has-in}
 use Rattle.seats.specs.Places.{span}
-use Rattle.tracker.specs.declared.Held.the-variants.{AtEnd, Within}
-use Rattle.tracker.specs.Inside.{Ordered, Found, Finds, finds-end, finds-within}
+use Rattle.rows.specs.declared.Held.{Held}
+use Rattle.rows.specs.declared.Held.the-variants.{No, AtEnd, Within}
+use Rattle.rows.specs.Held.{leftAt, sought, heldIn}
+use Rattle.rows.proofs.Row.{yes-there}
+use Rattle.rows.proofs.Found.{held-row}
+use Rattle.tracker.specs.Inside.{Finds, finds-no, finds-end, finds-within}
 
 -- a number below every run is in none
 has-below : (lo h : ℕ) (l : List Run) (n : ℕ) → canon lo h l ≡ true → n < lo → has l n ≡ false
@@ -22,39 +26,6 @@ has-below lo h l n c p = go (has l n) refl
     go : (b : Bool) → has l n ≡ b → has l n ≡ false
     go true e = absurd (omega (arith, low lo h l n (canon-yes lo h l c) (has-in l n e)))
     go false e = e
-
-module _ (f l : List ℕ) (b count j : ℕ) (m : j < count) where
-  row-more : span f l (b + j) (count - j) ≡ run (getD f (b + j) 0) (getD l (b + j) 0) ∷ span f l (b + (j + 1)) (count - (j + 1))
-  unfolding span
-  row-more =
-      let e : count - j ≡ suc (count - (j + 1)) = omega arith in
-      let d : b + (j + 1) ≡ suc (b + j) = omega arith in
-      rw (e, d)
-
-  -- a run that ends below n
-  pub hold-pass : (n : ℕ) → getD l (b + j) 0 < n → has (span f l (b + j) (count - j)) n ≡ has (span f l (b + (j + 1)) (count - (j + 1))) n
-  unfolding has
-  hold-pass n p = rw (row-more, lt-leb n (getD l (b + j) 0) p, and-false (leb (getD f (b + j) 0) n))
-
-  -- a run that starts above n, which those behind it do too
-  pub hold-none : (n : ℕ) → Ordered f l (b + j) (count - j) → n < getD f (b + j) 0 → has (span f l (b + j) (count - j)) n ≡ false
-  hold-none n o p =
-      let c = canon-yes (o .low) (o .high) (run (getD f (b + j) 0) (getD l (b + j) 0) ∷ span f l (b + (j + 1)) (count - (j + 1))) (sym (ap (canon (o .low) (o .high)) row-more) ∙ o .order) in
-      has-below (getD f (b + j) 0) (o .high) (span f l (b + j) (count - j)) n
-      (rw row-more (yes-canon (getD f (b + j) 0) (o .high) (run (getD f (b + j) 0) (getD l (b + j) 0) ∷ span f l (b + (j + 1)) (count - (j + 1))) (omega arith, c .1, c .2, c .3))) p
-
-  pub order-more : Ordered f l (b + j) (count - j) → Ordered f l (b + (j + 1)) (count - (j + 1))
-  order-more o =
-      let c = canon-yes (o .low) (o .high) (run (getD f (b + j) 0) (getD l (b + j) 0) ∷ span f l (b + (j + 1)) (count - (j + 1))) (sym (ap (canon (o .low) (o .high)) row-more) ∙ o .order) in
-      record {
-        low = getD l (b + j) 0 + 2;
-        high = o .high;
-        order = yes-canon (getD l (b + j) 0 + 2) (o .high) (span f l (b + (j + 1)) (count - (j + 1))) (c .3);
-      }
-
-pub hold-end : (f l : List ℕ) (b count n : ℕ) → has (span f l b (count - count)) n ≡ false
-unfolding has span
-hold-end f l b count n = let e : count - count ≡ 0 = omega arith in rw e
 
 pub held-at : (f l : List ℕ) (b count j n : ℕ) → j < count → getD f (b + j) 0 ≤ n → n ≤ getD l (b + j) 0 → has (span f l b count) n ≡ true
 unfolding has span
@@ -68,20 +39,67 @@ held-at f l b (suc count) (suc j) n m p q =
 
 -- ---- what the search found
 
-module _ (f l : List ℕ) (b count n j : ℕ) (q : Found f l b count n j) (m : j < count) where
-  pub found-within : Finds f l b count n Within
-  found-within = finds-within (held-at f l b count j n m (q .first m) (q .last m))
+module _ (f l : List ℕ) (b count n : ℕ) where
+  -- the first run ends below n
+  later : (s : Held) → getD l b 0 < n → Finds f l (suc b) count n s → Finds f l b (suc count) n s
+  unfolding has span
+  later s h (finds-no a) = finds-no (rw (lt-leb n (getD l b 0) h, and-false (leb (getD f b 0) n), a))
+  later s h (finds-end j x m p q c) =
+      let e : suc b + j ≡ b + suc j = omega arith in
+      let y : Finds f l b (suc count) n (AtEnd (b + suc j) (x .first) (x .last)) = finds-end (suc j) x (omega arith) (rw (← e) p) (rw (← e) q) (rw (← e) c) in
+      rw (← e) at y
+  later s h (finds-within a) = finds-within (rw (a, or-true (leb (getD f b 0) n && leb n (getD l b 0))))
 
-  -- n is the first number of its run, and not its last
-  pub found-front : getD f (b + j) 0 ≡ n → n < getD l (b + j) 0 → Finds f l b count n (AtEnd (b + j) (n + 1) (getD l (b + j) 0))
-  found-front e h =
-      finds-end j (run (n + 1) (getD l (b + j) 0)) m (q .first m) (q .last m) (cut-front (run (getD f (b + j) 0) (getD l (b + j) 0)) n (sym e) h)
+  -- the first run does not
+  module _ (lo h : ℕ) (o : canon lo h (span f l b (suc count)) ≡ true) (q : n ≤ getD l b 0) where
+    below : n < getD f b 0 → has (span f l b (suc count)) n ≡ false
+    unfolding span
+    below p =
+        let c = canon-yes lo h (run (getD f b 0) (getD l b 0) ∷ span f l (suc b) count) o in
+        has-below (getD f b 0) h (run (getD f b 0) (getD l b 0) ∷ span f l (suc b) count) n (yes-canon (getD f b 0) h (run (getD f b 0) (getD l b 0) ∷ span f l (suc b) count) (omega arith, c .1, c .2, c .3)) p
 
-  pub found-above : (getD f (b + j) 0 ≡ n → ⊥) → getD f (b + j) 0 < n
-  found-above e = omega (arith, q .first m, e)
+    module _ (p : getD f b 0 ≤ n) where
+      there : b + 0 ≡ b
+      there = omega arith
 
-  -- n is the last number of its run, and not its first
-  pub found-back : (getD f (b + j) 0 ≡ n → ⊥) → getD l (b + j) 0 ≡ n → Finds f l b count n (AtEnd (b + j) (getD f (b + j) 0) (n - 1))
-  found-back e h =
-      finds-end j (run (getD f (b + j) 0) (n - 1)) m (q .first m) (q .last m)
-      (cut-back (run (getD f (b + j) 0) (getD l (b + j) 0)) n (found-above e) (sym h))
+      held : has (span f l b (suc count)) n ≡ true
+      held = held-at f l b (suc count) 0 n (omega arith) (rw there p) (rw there q)
+
+      ends : (x : Run) → cut (run (getD f b 0) (getD l b 0)) n ≡ x ∷ [] → Finds f l b (suc count) n (AtEnd b (x .first) (x .last))
+      ends x c =
+          let y : Finds f l b (suc count) n (AtEnd (b + 0) (x .first) (x .last)) = finds-end 0 x (omega arith) (rw there p) (rw there q) (rw there c) in
+          rw there at y
+
+    here : Finds f l b (suc count) n (leftAt b (run (getD f b 0) (getD l b 0)) n)
+    unfolding leftAt
+    here = go (ltb n (getD f b 0)) refl (eqb n (getD f b 0)) refl (ltb n (getD l b 0)) refl (eqb n (getD l b 0)) refl
+      where
+        r : Run
+        r = run (getD f b 0) (getD l b 0)
+
+        go : (x : Bool) → ltb n (getD f b 0) ≡ x → (y : Bool) → eqb n (getD f b 0) ≡ y → (z : Bool) → ltb n (getD l b 0) ≡ z → (v : Bool) → eqb n (getD l b 0) ≡ v →
+            Finds f l b (suc count) n (cond x No (cond y (cond z (AtEnd b (n + 1) (getD l b 0)) Within) (cond v (AtEnd b (getD f b 0) (n - 1)) Within)))
+        go true p y e z t v u = finds-no (below (ltb-true n (getD f b 0) p))
+        go false p true e true t v u = ends (ltb-false n (getD f b 0) p) (run (n + 1) (getD l b 0)) (cut-front r n (eqb-true n (getD f b 0) e) (ltb-true n (getD l b 0) t))
+        go false p true e false t v u = finds-within (held (ltb-false n (getD f b 0) p))
+        go false p false e z t true u =
+            let g = ltb-false n (getD f b 0) p in
+            ends g (run (getD f b 0) (n - 1)) (cut-back r n (omega (arith, g, eqb-false n (getD f b 0) e)) (eqb-true n (getD l b 0) u))
+        go false p false e z t false u = finds-within (held (ltb-false n (getD f b 0) p))
+
+finds-in : (f l : List ℕ) (lo h b count n : ℕ) → canon lo h (span f l b count) ≡ true → Finds f l b count n (sought b (span f l b count) n)
+unfolding sought span has
+finds-in f l lo h b zero n o = finds-no refl
+finds-in f l lo h b (suc count) n o =
+    let c = canon-yes lo h (run (getD f b 0) (getD l b 0) ∷ span f l (suc b) count) o in
+    go (finds-in f l (getD l b 0 + 2) h (suc b) count n (yes-canon (getD l b 0 + 2) h (span f l (suc b) count) (c .3))) (leb n (getD l b 0)) refl
+  where
+    go : Finds f l (suc b) count n (sought (suc b) (span f l (suc b) count) n) → (x : Bool) → leb n (getD l b 0) ≡ x →
+        Finds f l b (suc count) n (cond x (leftAt b (run (getD f b 0) (getD l b 0)) n) (sought (suc b) (span f l (suc b) count) n))
+    go d true e = here f l b count n lo h o (leb-true n (getD l b 0) e)
+    go d false e = later f l b count n (sought (suc b) (span f l (suc b) count) n) (leb-false n (getD l b 0) e) d
+
+-- the search of a row within the rules
+pub search-finds : (f l : List ℕ) (i count h n : ℕ) → i < 8 → count ≤ 32 → canon 1 h (span f l (i * 32) count) ≡ true →
+    (s : Held) → s ≡ heldIn f l i count n → Finds f l (i * 32) count n s
+search-finds f l i count h n p q o s e = rw (e, held-row f l i count n (yes-there i count p q)) (finds-in f l 1 h (i * 32) count n o)

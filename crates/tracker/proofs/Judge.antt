@@ -25,7 +25,7 @@ use Rattle.gaps.proofs.Sets.{Canon, canon-yes}
 use Rattle.gaps.proofs.Exact.{ticked-new, ticked-late, ticked-again}
 use Rattle.gaps.proofs.Alone.{judged-low}
 use Rattle.tracker.specs.declared.Tracker.{Tracker}
-use Rattle.tracker.specs.declared.Gap.{Gap}
+use Rattle.rows.specs.declared.Gap.{Gap}
 use Rattle.tracker.specs.Places.{mark, channel, put}
 use Rattle.seats.specs.declared.Seat.{Seat}
 use Rattle.tracker.specs.declared.Verdict.the-variants.{NotInTracker, BelowRange, Malformed}
@@ -34,8 +34,8 @@ use Rattle.tracker.specs.declared.Judged.{Judged}
 use Rattle.tracker.specs.declared.Judged.the-variants.{Refused, At}
 use Rattle.tracker.specs.Rules.{wellFormed}
 use Rattle.tracker.specs.Arrived.{on, place, settled, arrived}
-use Rattle.tracker.specs.declared.Held.{Held}
-use Rattle.tracker.specs.declared.Held.the-variants.{No, AtEnd, Within}
+use Rattle.rows.specs.declared.Held.{Held}
+use Rattle.rows.specs.declared.Held.the-variants.{No, AtEnd, Within}
 use Rattle.tracker.specs.Inside.{Judges, stored, Room, Finds, finds-no, finds-end, finds-within}
 use Rattle.tracker.proofs.Row.{span-length, span-at}
 use Rattle.tracker.proofs.Hold.{held-at}

@@ -1,16 +1,21 @@
 -- Where the numbers behind the highest go, in each of the cases.
-use Prim.Native.Nat.{ℕ, _+_, _-_, _≤_, _<_}
+use Prim.Native.Nat.{ℕ, _+_, _*_, _-_, _≤_, _<_}
 use native.Mathlib.Omega.{arith}
-use mathlib.Core.Path.{_≡_, ap, _∙_}
+use mathlib.Core.Path.{_≡_, refl, ap, _∙_}
 use mathlib.Core.List.{List, [], _∷_, _++_}
-use mathlib.Core.Bool.{Bool, true, false, false≢true, true≢false}
+use mathlib.Core.Bool.{Bool, true, false, cond, false≢true, true≢false}
 use lib.ListN.{getD, length-append}
+use lib.Dec.{leb, ltb, eqb}
+use borrow.Author.Tests.{le-leb, ltb-true, ltb-false, eqb-true, eqb-false}
+use Rattle.gaps.specs.Limits.{mostNumber}
 use Rattle.gaps.specs.Gaps.{run, grow}
 use Rattle.gaps.proofs.Grow.{grow-apart, grow-touch}
-use Rattle.tracker.specs.declared.Gap.{Gap}
+use Rattle.rows.specs.declared.Gap.{Gap}
+use Rattle.rows.specs.Gap.{full, placed, gapIn}
+use Rattle.rows.proofs.Row.{span-last, yes-there}
 use Rattle.seats.specs.Places.{span}
 use Rattle.tracker.specs.Inside.{Room, Grows}
-use Rattle.tracker.proofs.Row.{span-length, span-last, span-take}
+use Rattle.tracker.proofs.Row.{span-length, span-take}
 
 abbrev gap : Bool → ℕ → ℕ → Gap
 gap full at first = record { full = full; at = at; first = first }
@@ -51,3 +56,15 @@ module _ (f l : List ℕ) (b held h : ℕ) where
     room-next s e =
         fits f l b held h held (h + 1)
         (record { within = s; low = omega arith; high = omega arith; grown = λ m. rw (span-take f l b held held (omega arith)) (apart e m) })
+
+-- in a row within the rules
+pub room-grows : (f l : List ℕ) (i n h : ℕ) → i < 8 → n ≤ 32 → h ≤ mostNumber → (g : Gap) → g ≡ gapIn f l i n h → Grows f l (i * 32) n h g
+unfolding gapIn
+room-grows f l i n h p q r g e = rw (e, yes-there i n p q, le-leb h mostNumber r) (go (eqb n 0) refl (eqb (getD l (i * 32 + (n - 1)) 0) h) refl (ltb n 32) refl)
+  where
+    go : (x : Bool) → eqb n 0 ≡ x → (y : Bool) → eqb (getD l (i * 32 + (n - 1)) 0) h ≡ y → (z : Bool) → ltb n 32 ≡ z →
+        Grows f l (i * 32) n h (cond x (placed 0 (h + 1)) (cond y (placed (n - 1) (getD f (i * 32 + (n - 1)) 0)) (cond z (placed n (h + 1)) full)))
+    go true a y b z c = room-first f l (i * 32) n h (eqb-true n 0 a)
+    go false a true b z c = room-joined f l (i * 32) n h (omega (arith, eqb-false n 0 a)) q (eqb-true (getD l (i * 32 + (n - 1)) 0) h b)
+    go false a false b true c = room-next f l (i * 32) n h (omega (arith, eqb-false n 0 a)) (ltb-true n 32 c) (eqb-false (getD l (i * 32 + (n - 1)) 0) h b)
+    go false a false b false c = room-none f l (i * 32) n h (omega (arith, eqb-false n 0 a)) (omega (arith, q, ltb-false n 32 c)) (eqb-false (getD l (i * 32 + (n - 1)) 0) h b)

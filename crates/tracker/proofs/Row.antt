@@ -1,19 +1,17 @@
 -- Numbers in consecutive places: read, padded and laid back.
 use Prim.Native.Nat.{ℕ, zero, suc, _+_, _-_, _≤_, _<_}
 use native.Mathlib.Omega.{arith}
-use native.Mathlib.Numerals.{add-one}
 use mathlib.Core.Path.{_≡_, refl, ap, sym, _∙_}
-use mathlib.Core.List.{List, [], _∷_, _++_, append-nil, append-assoc}
+use mathlib.Core.List.{List, [], _∷_, _++_, append-assoc}
 use mathlib.Core.Bool.{true}
 use lib.Dec.{eqb}
-use lib.ListN.{length, take, drop, getD, set, replicate, length-append, length-set}
-use lib.Seq.{sets, set-getD, set-at, set-append-left, drop-cons, getD-set-other}
+use lib.ListN.{length, take, getD, set, replicate, length-append, length-set}
+use lib.Seq.{sets, set-getD, set-at, set-append-left, getD-set-other}
 use borrow.Author.Tests.{eqb-true}
 use Rattle.gaps.specs.declared.Run.{Run}
-use Rattle.gaps.specs.Gaps.{run, cut, cutAll}
+use Rattle.gaps.specs.Gaps.{run}
 use Rattle.gaps.specs.Built.{firsts, lasts, padded}
 use Rattle.gaps.proofs.Numbers.{and-split}
-use Rattle.gaps.proofs.Cut.{cutAll-append}
 use Rattle.seats.specs.Places.{span}
 use Rattle.seats.specs.Rules.{allZero}
 
@@ -51,11 +49,6 @@ sets-set f b (suc n) zero v h =
 sets-set f b (suc n) (suc j) v h =
     let e : b + suc j ≡ suc b + j = omega arith in
     rw e (ap (λ (x : List ℕ). sets x (suc b) (set (cells f (suc b) n) j v)) (set-getD f b 0) ∙ sets-set f (suc b) n j v (omega arith))
-
--- one place more of a row that is laid
-module _ (a : List ℕ) (b i : ℕ) (row : List ℕ) where
-  pub lay-more : i < length row → sets a (b + i) (drop i row) ≡ sets (set a (b + i) (getD row i 0)) (b + (i + 1)) (drop (i + 1) row)
-  lay-more h = let e : b + (i + 1) ≡ suc (b + i) = omega arith in rw (drop-cons row i 0 h, e, add-one i)
 
 -- ---- padded
 
@@ -99,14 +92,6 @@ unfolding span
 span-length f l b zero = refl
 span-length f l b (suc n) = ap suc (span-length f l (suc b) n)
 
-pub span-last : (f l : List ℕ) (b i : ℕ) → span f l b (i + 1) ≡ span f l b i ++ (run (getD f (b + i) 0) (getD l (b + i) 0) ∷ [])
-unfolding span
-span-last f l b i = rw add-one (go b i)
-  where
-    go : (b i : ℕ) → span f l b (suc i) ≡ span f l b i ++ (run (getD f (b + i) 0) (getD l (b + i) 0) ∷ [])
-    go b zero = let e : b + 0 ≡ b = omega arith in rw e
-    go b (suc i) = let e : b + suc i ≡ suc b + i = omega arith in rw e (ap (λ (t : List Run). run (getD f b 0) (getD l b 0) ∷ t) (go (suc b) i))
-
 pub span-take : (f l : List ℕ) (b n m : ℕ) → n ≤ m → take n (span f l b m) ≡ span f l b n
 unfolding span
 span-take f l b zero m h = refl
@@ -129,8 +114,3 @@ zero-places f l b (suc n) e =
     let x = eqb-true (getD f b 0) 0 (p .0) in
     let y = eqb-true (getD l b 0) 0 (q .0) in
     (rw (x, r .0), rw (y, r .1))
-
--- one run more is cut
-pub cut-more : (f l : List ℕ) (b n i : ℕ) → cutAll (span f l b (i + 1)) n ≡ cutAll (span f l b i) n ++ cut (run (getD f (b + i) 0) (getD l (b + i) 0)) n
-unfolding cutAll
-cut-more f l b n i = rw (span-last f l b i, cutAll-append, append-nil)

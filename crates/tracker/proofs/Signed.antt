@@ -1,5 +1,5 @@
 -- The tests and the cast of a signed number.
-use Prim.Native.Nat.{ℕ, _≤_, zero-le}
+use Prim.Native.Nat.{_≤_, zero-le}
 use native.Mathlib.Omega.{arith}
 use mathlib.Core.Path.{_≡_, refl, sym, _∙_}
 use mathlib.Core.Bool.{true, false, false≢true}
@@ -8,7 +8,7 @@ use lib.IntN.{ℤ, pos, negsuc, natAbs}
 use lib.Signed.{ltZ, nonNeg}
 use mir.Syntax.{w64}
 use mir.Val.{Fits, SFits}
-use borrow.Author.Tests.{le-ltb, ltb-false}
+use borrow.Author.Tests.{le-ltb}
 use Rattle.gaps.specs.Limits.{mostNumber}
 use Rattle.gaps.specs.Channel.{natural}
 
@@ -37,10 +37,6 @@ natural-pos (negsuc n) e = absurd (false≢true (sym e))
 pub below-one : (z : ℤ) → ltZ z (pos 1) ≡ ltb (natural z) 1
 below-one (pos n) = refl
 below-one (negsuc n) = refl
-
--- a number that a tick may have
-pub tick-low : (z : ℤ) (n : ℕ) → n ≡ natural z → ltZ z (pos 1) ≡ false → 1 ≤ n
-tick-low z n e p = rw e (ltb-false (natural z) 1 (sym (below-one z) ∙ p))
 
 pub natural-one : (z : ℤ) → 1 ≤ natural z → z ≡ pos (natural z)
 natural-one (pos n) h = refl

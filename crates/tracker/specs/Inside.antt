@@ -7,7 +7,7 @@ use lib.Dec.{ltb}
 use lib.ListN.{length, take, getD}
 use Rattle.wire.specs.Answer.{Answer, accepted, refused}
 use Rattle.gaps.specs.declared.Run.{Run}
-use Rattle.gaps.specs.Gaps.{run, has, cut, grow, canon}
+use Rattle.gaps.specs.Gaps.{run, has, cut, grow}
 use Rattle.wire.specs.Refusal.{noSuchChannel, tableFull, malformed}
 use Rattle.gaps.specs.Limits.{runLimit}
 use Rattle.gaps.specs.Channel.{Event, Said, tooLow, judged}
@@ -16,9 +16,9 @@ use Rattle.tracker.specs.declared.Wanted.{Wanted}
 use Rattle.tracker.specs.declared.Wanted.the-variants as wanted
 use Rattle.tracker.specs.declared.Judged.{Judged}
 use Rattle.tracker.specs.declared.Judged.the-variants.{Refused, At}
-use Rattle.tracker.specs.declared.Gap.{Gap}
-use Rattle.tracker.specs.declared.Held.{Held}
-use Rattle.tracker.specs.declared.Held.the-variants.{No, AtEnd, Within}
+use Rattle.rows.specs.declared.Gap.{Gap}
+use Rattle.rows.specs.declared.Held.{Held}
+use Rattle.rows.specs.declared.Held.the-variants.{No, AtEnd, Within}
 use Rattle.seats.specs.Places.{channelLimit, span}
 use Rattle.tracker.specs.Places.{channel, put}
 use Rattle.seats.specs.Rules.{soundRow}
@@ -48,18 +48,6 @@ pub record Kept (t : Tracker) (i : ℕ) : Type 0 where
 abbrev pub Judges : Tracker → ℕ → Bool → Judged → Type 0
 Judges t k low (Refused v) = (e : Event) → tooLow e ≡ low → arrived t (on k e) ≡ record { said = saidOf v; next = t }
 Judges t k low (At i) = (low ≡ false) × Kept t i × ((e : Event) → arrived t (on k e) ≡ settled t i (judged (channel t i) e))
-
--- the n runs from place b on are in order
-pub record Ordered (f l : List ℕ) (b n : ℕ) : Type 0 where
-  pub low : ℕ
-  pub high : ℕ
-  pub order : canon low high (span f l b n) ≡ true
-
--- r is the place, from b on, of the run that holds n, or no run of the count does
-pub record Found (f l : List ℕ) (b count n r : ℕ) : Type 0 where
-  pub first : r < count → getD f (b + r) 0 ≤ n
-  pub last : r < count → n ≤ getD l (b + r) 0
-  pub none : count ≤ r → has (span f l b count) n ≡ false
 
 -- no run holds n; or the run at place j does, and is left as one other run; or a run does
 pub data Finds (f l : List ℕ) (b count n : ℕ) : Held → Type 0 where

@@ -10,10 +10,15 @@ ghost use Rattle.tracker.specs.Inside.{Kept, stored};
 use crate::refused::judge;
 use gaps::Run;
 use gaps::Runs;
+use rows::Held;
+use rows::lay;
+use rows::padded;
+use rows::room;
+use rows::search;
+use rows::without;
 use seats::Seat;
-use seats::ascending;
+use seats::listed;
 
-mod places;
 mod refused;
 mod request;
 mod signs;
@@ -88,20 +93,6 @@ enum Judged {
     At(usize),
 }
 
-// Where new missing numbers go: the place in the row and the first number of the run there, or full.
-struct Gap {
-    full: bool,
-    at: usize,
-    first: u64,
-}
-
-// Whether a run holds a number: at an end, where the run at that place is left as from first to last, or within.
-enum Held {
-    No,
-    AtEnd(usize, u64, u64),
-    Within,
-}
-
 impl Tracker {
     // The most channels that a tracker holds.
     pub const CHANNELS: usize = Seat::COUNT;
@@ -113,23 +104,10 @@ impl Tracker {
     pub fn set_up(numbers: &[u16]) -> Started
         ensures { λ r. ⌜ begun r ≡ setUp (now (numbers .entry)) ⌝ }
     {
-        let n = numbers.len();
-        if n == 0 {
-            return Started {
-                verdict: Start::Malformed,
-                tracker: Tracker::blank(0, [0; Tracker::CHANNELS]),
-            };
-        }
-        if Tracker::CHANNELS < n {
-            return Started {
-                verdict: Start::Malformed,
-                tracker: Tracker::blank(0, [0; Tracker::CHANNELS]),
-            };
-        }
-        if ascending(numbers) {
+        if listed(numbers) {
             return Started {
                 verdict: Start::SetUp,
-                tracker: Tracker::blank(n, places::padded(numbers)),
+                tracker: Tracker::blank(numbers.len(), padded(numbers)),
             };
         }
         Started {
@@ -157,9 +135,10 @@ impl Tracker {
     pub fn tick(mut self, channel: u16, number: i64) -> Reply
         ensures { λ r. ⌜ paper r ≡ arrived self (on channel (tick number)) ⌝ }
     {
+        let n = signs::natural(number);
         let judged = judge(
             channel,
-            signs::below(number, 1),
+            n < 1,
             self.count,
             &self.numbers,
             &self.highest,
@@ -169,9 +148,11 @@ impl Tracker {
             &self.last,
         );
         match judged {
-            Judged::Refused(verdict) => self.unchanged(verdict),
+            Judged::Refused(verdict) => Reply {
+                verdict: verdict,
+                next: self,
+            },
             Judged::At(at) => {
-                let n = signs::natural(number);
                 let highest = self.highest[at];
                 // The common path: the next number, and nothing else changes.
                 if highest == n - 1 {
@@ -186,9 +167,12 @@ impl Tracker {
                     return self.raise(at, n - 1, n, ended, Verdict::New);
                 }
                 let count = self.counts[at];
-                let held = places::held(&self.first, &self.last, at * Runs::LIMIT, count, n);
+                let held = search(&self.first, &self.last, at, count, n);
                 match held {
-                    Held::No => self.unchanged(Verdict::Duplicate),
+                    Held::No => Reply {
+                        verdict: Verdict::Duplicate,
+                        next: self,
+                    },
                     Held::AtEnd(p, first, last) => {
                         self.first[p] = first;
                         self.last[p] = last;
@@ -219,7 +203,10 @@ impl Tracker {
             &self.last,
         );
         match judged {
-            Judged::Refused(verdict) => self.unchanged(verdict),
+            Judged::Refused(verdict) => Reply {
+                verdict: verdict,
+                next: self,
+            },
             Judged::At(at) => {
                 let m = signs::natural(last);
                 let highest = self.highest[at];
@@ -227,7 +214,7 @@ impl Tracker {
                 if highest < m {
                     return self.raise(at, m, m, ended, Verdict::Heard);
                 }
-                self.ended[at] = places::mark(ended);
+                self.ended[at] = signs::mark(ended);
                 Reply {
                     verdict: Verdict::Heard,
                     next: self,
@@ -259,35 +246,27 @@ impl Tracker {
         }
     }
 
-    // This answer, and the tracker as it stood.
-    fn unchanged(self, verdict: Verdict) -> Reply
-        ensures { λ r. ⌜ (r .verdict ≡ verdict) × (r .next ≡ self) ⌝ }
-    {
-        Reply {
-            verdict: verdict,
-            next: self,
-        }
-    }
-
     // All numbers behind the highest up to m become missing, under another highest and mark; or 9.
     fn raise(mut self, at: usize, m: u64, highest: u64, ended: bool, verdict: Verdict) -> Reply
         requires { ⌜ Kept self at ⌝ }
         ensures { λ r. ⌜ paper r ≡ stored self at (saidOf verdict) highest ended (grow (channel self at .runs) (channel self at .highest) m) ⌝ }
     {
-        let b = at * Runs::LIMIT;
         let held = self.counts[at];
         let before = self.highest[at];
-        let gap = places::gap(&self.first, &self.last, b, held, before);
+        let gap = room(&self.first, &self.last, at, held, before);
         if gap.full {
-            return self.unchanged(Verdict::Full);
+            return Reply {
+                verdict: Verdict::Full,
+                next: self,
+            };
         }
         let j = gap.at;
-        let p = b + j;
+        let p = at * Runs::LIMIT + j;
         self.first[p] = gap.first;
         self.last[p] = m;
         self.counts[at] = j + 1;
         self.highest[at] = highest;
-        self.ended[at] = places::mark(ended);
+        self.ended[at] = signs::mark(ended);
         Reply {
             verdict: verdict,
             next: self,
@@ -299,17 +278,19 @@ impl Tracker {
         requires { ⌜ Kept self at ⌝ }
         ensures { λ r. ⌜ paper r ≡ stored self at (saidOf Verdict.Late) (channel self at .highest) (channel self at .ended) (cutAll (channel self at .runs) n) ⌝ }
     {
-        let b = at * Runs::LIMIT;
         let held = self.counts[at];
-        let left = places::without(&self.first, &self.last, b, held, n);
+        let left = without(&self.first, &self.last, at, held, n);
         if left.full {
-            return self.unchanged(Verdict::Full);
+            return Reply {
+                verdict: Verdict::Full,
+                next: self,
+            };
         }
         let first = left.first;
         let last = left.last;
         self.counts[at] = left.count;
-        places::lay(&mut self.first, b, first);
-        places::lay(&mut self.last, b, last);
+        lay(&mut self.first, at, first);
+        lay(&mut self.last, at, last);
         Reply {
             verdict: Verdict::Late,
             next: self,

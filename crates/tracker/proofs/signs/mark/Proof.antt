@@ -3,8 +3,8 @@ use mathlib.Core.Bool.{Bool, true, false}
 use mathlib.Core.Path.{_≡_, refl}
 use mir.Val.{boolByte}
 use Rattle.tracker.specs.Places.{mark}
-use Rattle.tracker.proofs.places.mark.Statement.{statement}
-use Rattle.tracker.proofs.places.mark.Tie as tie
+use Rattle.tracker.proofs.signs.mark.Statement.{statement}
+use Rattle.tracker.proofs.signs.mark.Tie as tie
 
 byte : (e : Bool) → boolByte e ≡ mark e
 byte true = refl
