@@ -1,165 +1,78 @@
-// The indented lines below a record's: its groups, and its entries with their shown quantities.
-use crate::field;
+// The lines below a record's: its groups, and its entries with their shown quantities.
+use crate::field::PHASE;
+use crate::field::STREAM;
+use crate::words::Line;
+use crate::words::empty;
+use crate::words::short;
+use entries::AskedEntry;
 use entries::AskedQuantity;
-use entries::Cursor;
-use entries::Entry;
 use entries::Says;
-use entries::Step;
 use record::GroupAnswer;
-use record::Stream;
-use record::Switch;
-use record::Text;
+use record::Record;
 
-// A piece of text is shorter than this.
-pub const MARGIN: usize = 1024;
-
-fn stream_line(out: &mut [u8], at: usize, kind: u32, g: Stream, texts: &[u8]) -> usize {
-    let a = field::quoted(
-        out,
-        at,
-        b": stream ",
-        record::group_text_of(kind, Text::Stream, texts),
-    );
-    let b = field::count(out, a, b", stock number ", g.stock_number as u64);
-    let c = field::quoted(
-        out,
-        b,
-        b", phase ",
-        record::group_text_of(kind, Text::Phase, texts),
-    );
-    text::word(out, c, b"\n")
-}
-
-fn switch_line(out: &mut [u8], at: usize, g: Switch) -> usize {
-    let a = field::count(out, at, b": switch type ", g.switch_type as u64);
-    let b = field::count(out, a, b", yes/no ", g.yes_no as u64);
-    text::word(out, b, b"\n")
-}
-
-fn group_line(out: &mut [u8], at: usize, kind: u32, body: &[u8], i: u32) -> usize {
+// Group i of a statistics body or a security status.
+fn group(kind: u32, body: &[u8], i: u32) -> Line {
     let reading = record::group_of(kind, body, i);
     let answer = reading.answer;
     let found = reading.texts;
     let texts = found.bytes;
-    let a = field::count(out, at, b"  group ", i as u64);
+    let n = i as i64;
     match answer {
-        GroupAnswer::Stream(g) => stream_line(out, a, kind, g, &texts),
-        GroupAnswer::Switch(g) => switch_line(out, a, g),
-        GroupAnswer::NoSuchEntry => at,
-        GroupAnswer::Refused(_) => at,
+        GroupAnswer::Stream(g) => short(texts, 21, n, STREAM, g.stock_number as i64, PHASE, 0, 0),
+        GroupAnswer::Switch(g) => {
+            short(texts, 22, n, g.switch_type as i64, g.yes_no as i64, 0, 0, 0)
+        }
+        GroupAnswer::NoSuchEntry => empty(),
+        GroupAnswer::Refused(_) => empty(),
     }
 }
 
-// The groups of a statistics body or a security status, of which there are n.
-pub fn groups(out: &mut [u8], at: usize, kind: u32, body: &[u8], n: u32) -> usize {
-    let mut place = at;
-    let mut i: u32 = 0;
-    while i < n {
-        let a = group_line(out, place, kind, body, i);
-        place = window::flush(out, a, MARGIN);
-        i += 1;
-    }
-    place
-}
-
-// What an entry says.
-fn says(out: &mut [u8], at: usize, what: Says) -> usize {
-    match what {
+// What entry i says, with its type t.
+fn entry(i: i64, t: i64, says: Says) -> Line {
+    let none = [0u8; 24];
+    match says {
         Says::Level {
             entry_price,
             size,
             level,
             order_count,
             shown: _,
-        } => {
-            let a = field::price(out, at, b", price ", entry_price);
-            level_fields(out, a, size, level, order_count)
-        }
+        } => short(none, 1, i, t, entry_price, size, level as i64, order_count),
         Says::LevelWithoutPrice {
             size,
             level,
             order_count,
             shown: _,
-        } => {
-            let a = text::word(out, at, b", price -");
-            level_fields(out, a, size, level, order_count)
-        }
-        Says::Price { entry_price } => field::price(out, at, b", price ", entry_price),
-        Says::Size { size } => field::quantity(out, at, b", size ", size),
-        Says::Both { entry_price, size } => {
-            let a = field::price(out, at, b", price ", entry_price);
-            field::quantity(out, a, b", size ", size)
-        }
-        Says::NoLimit => text::word(out, at, b", no limit"),
-        Says::Unknown => text::word(out, at, b", unknown"),
+        } => short(none, 4, i, t, size, level as i64, order_count, 0),
+        Says::Price { entry_price } => short(none, 5, i, t, entry_price, 0, 0, 0),
+        Says::Size { size } => short(none, 6, i, t, size, 0, 0, 0),
+        Says::Both { entry_price, size } => short(none, 7, i, t, entry_price, size, 0, 0),
+        Says::NoLimit => short(none, 8, i, t, 0, 0, 0, 0),
+        Says::Unknown => short(none, 9, i, t, 0, 0, 0, 0),
     }
 }
 
-fn level_fields(out: &mut [u8], at: usize, size: i64, level: u16, order_count: i64) -> usize {
-    let a = field::quantity(out, at, b", size ", size);
-    let b = field::count(out, a, b", level ", level as u64);
-    field::number(out, b, b", order count ", order_count)
-}
-
-fn entry_line(out: &mut [u8], at: usize, i: u32, e: Entry) -> usize {
-    let characters = e.characters;
-    let what = e.says;
-    let a = field::count(out, at, b"  entry ", i as u64);
-    let pair = [(characters / 256) as u8, (characters % 256) as u8];
-    let b = field::quoted(out, a, b": type ", &pair);
-    says(out, b, what)
-}
-
-// Shown quantity j.
-fn shown(out: &mut [u8], at: usize, j: u32, z: i64) -> usize {
-    if j == 0 {
-        let a = field::quantity(out, at, b", quantities ", z);
-        return window::flush(out, a, MARGIN);
+// Group or entry i; the empty line where there is none.
+pub fn below(kind: u32, body: &[u8], i: u32) -> Line {
+    if (kind == Record::STATISTICS) | (kind == Record::SECURITY_STATUS) {
+        return group(kind, body, i);
     }
-    let a = field::quantity(out, at, b" ", z);
-    window::flush(out, a, MARGIN)
-}
-
-// The shown quantities of entry i: fewer than the body has bytes.
-fn quantities(out: &mut [u8], at: usize, kind: u32, body: &[u8], i: u32) -> usize {
-    let mut place = at;
-    let mut j: u32 = 0;
-    while j < u32::MAX {
-        match entries::quantity_of(kind, body, i, j) {
-            AskedQuantity::Found(z) => {
-                place = shown(out, place, j, z);
-            }
-            AskedQuantity::NoSuchEntry => return place,
-            AskedQuantity::Refused(_) => return place,
+    match entries::entry_of(kind, body, i) {
+        AskedEntry::Found(e) => {
+            let says = e.says;
+            entry(i as i64, e.characters as i64, says)
         }
-        j += 1;
+        AskedEntry::NoSuchEntry => empty(),
+        AskedEntry::Refused(_) => empty(),
     }
-    place
 }
 
-// An entry with its shown quantities.
-fn whole_entry(out: &mut [u8], at: usize, kind: u32, body: &[u8], i: u32, e: Entry) -> usize {
-    let a = entry_line(out, at, i, e);
-    let b = quantities(out, a, kind, body, i);
-    let c = text::word(out, b, b"\n");
-    window::flush(out, c, MARGIN)
-}
-
-// The entries of a snapshot or an index, of which there are n.
-pub fn entries(out: &mut [u8], at: usize, kind: u32, body: &[u8], n: u32) -> usize {
-    let mut place = at;
-    let mut cursor = Cursor::start(kind, body);
-    let mut i: u32 = 0;
-    while i < n {
-        match cursor.step(kind, body) {
-            Step::Found(e, next) => {
-                place = whole_entry(out, place, kind, body, i, e);
-                cursor = next;
-            }
-            Step::NoSuchEntry => return place,
-            Step::Refused(_) => return place,
-        }
-        i += 1;
+// Shown quantity j of entry i; the empty line where there is none.
+pub fn quantity(kind: u32, body: &[u8], i: u32, j: u32) -> Line {
+    let number = if j == 0 { 10 } else { 11 };
+    match entries::quantity_of(kind, body, i, j) {
+        AskedQuantity::Found(z) => short([0u8; 24], number, z, 0, 0, 0, 0, 0),
+        AskedQuantity::NoSuchEntry => empty(),
+        AskedQuantity::Refused(_) => empty(),
     }
-    place
 }

@@ -1,41 +1,54 @@
-// Fields as `name value`; a name comes with what stands before it.
+// A field by its mark.
 use crate::value;
+use record::Record;
+use record::Text;
 
-// A number without a sign, and one with a sign.
-pub fn count(out: &mut [u8], at: usize, name: &[u8], v: u64) -> usize {
-    let a = text::word(out, at, name);
-    text::decimal(out, a, v)
+// The field of a mark for a text says which text.
+pub const STREAM: i64 = 0;
+
+pub const SECURITY: i64 = 1;
+
+pub const SOURCE: i64 = 2;
+
+pub const PHASE: i64 = 3;
+
+pub const FINANCIAL_STATUS: i64 = 4;
+
+pub const NEWS_ID: i64 = 5;
+
+pub const REJECT_TEXT: i64 = 6;
+
+fn named(which: i64) -> Text {
+    match which {
+        STREAM => Text::Stream,
+        SECURITY => Text::Security,
+        SOURCE => Text::Source,
+        PHASE => Text::Phase,
+        FINANCIAL_STATUS => Text::FinancialStatus,
+        NEWS_ID => Text::NewsId,
+        _ => Text::RejectText,
+    }
 }
 
-pub fn number(out: &mut [u8], at: usize, name: &[u8], z: i64) -> usize {
-    let a = text::word(out, at, name);
-    value::whole(out, a, z)
+// A text of a record; in a statistics body the groups alone have texts.
+fn text_in(kind: u32, which: i64, texts: &[u8]) -> &[u8] {
+    if kind == Record::STATISTICS {
+        return record::group_text_of(kind, named(which), texts);
+    }
+    record::text_of(kind, named(which), texts)
 }
 
-// A price or an amount, with four decimals.
-pub fn price(out: &mut [u8], at: usize, name: &[u8], z: i64) -> usize {
-    let a = text::word(out, at, name);
-    value::decimals4(out, a, z)
-}
-
-// A quantity, size or volume, with two decimals.
-pub fn quantity(out: &mut [u8], at: usize, name: &[u8], z: i64) -> usize {
-    let a = text::word(out, at, name);
-    value::hundredths(out, a, z)
-}
-
-pub fn time(out: &mut [u8], at: usize, name: &[u8], z: i64) -> usize {
-    let a = text::word(out, at, name);
-    value::moment(out, a, z)
-}
-
-// A field of one character, bare; a text, in quotes.
-pub fn character(out: &mut [u8], at: usize, name: &[u8], b: u8) -> usize {
-    let a = text::word(out, at, name);
-    value::character(out, a, b)
-}
-
-pub fn quoted(out: &mut [u8], at: usize, name: &[u8], bytes: &[u8]) -> usize {
-    let a = text::word(out, at, name);
-    value::quoted(out, a, bytes)
+// N is a number, P a price or an amount, Q a quantity, size or volume, T a time, C a character, E an entry's type, S a text.
+pub fn write(out: &mut [u8], at: usize, mark: u8, z: i64, kind: u32, texts: &[u8]) -> usize {
+    let bits = wire::unsigned(z);
+    match mark {
+        b'N' => value::number(out, at, bits, 1, b""),
+        b'P' => value::number(out, at, bits, 10000, b".0000"),
+        b'Q' => value::number(out, at, bits, 100, b".00"),
+        b'T' => value::digits(out, at, b"0000-00-00 00:00:00.000", bits),
+        b'C' => value::character(out, at, value::byte(bits)),
+        b'E' => value::text(out, at, &[value::byte(bits / 256), value::byte(bits)]),
+        b'S' => value::text(out, at, text_in(kind, z, texts)),
+        _ => at,
+    }
 }

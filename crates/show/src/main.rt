@@ -6,19 +6,20 @@ mod below;
 mod field;
 mod line;
 mod value;
+mod words;
 
-use below::MARGIN;
 use frame::Frame;
 use frame::Framed;
-use record::Answer;
-use record::Record;
-use record::Refusal;
+use words::Line;
 
 // The window that slides over the input holds the longest frame several times, so that reads are few.
 const WINDOW: usize = 4 * Frame::LIMIT;
 
 // Lines are gathered and written together.
 const GATHERED: usize = 65536;
+
+// A piece of a line is shorter than this.
+const MARGIN: usize = 1024;
 
 // Where the program is: bytes of the window that are shown, offset and frames so far, bytes gathered, and the number of the
 // refusal 1 to 3 at that place, 0 where there is none.
@@ -30,65 +31,43 @@ struct Place {
     refused: u32,
 }
 
-// The lines below a record's.
-fn lines_below(out: &mut [u8], at: usize, kind: u32, body: &[u8], r: Record) -> usize {
-    match r {
-        Record::Statistics(x) => below::groups(out, at, kind, body, x.count),
-        Record::SecurityStatus(x) => below::groups(out, at, kind, body, x.count),
-        Record::Snapshot(x) => below::entries(out, at, kind, body, x.count),
-        Record::Index(x) => below::entries(out, at, kind, body, x.count),
-        Record::Heartbeat => at,
-        Record::ChannelHeartbeat(_) => at,
-        Record::Resend(_) => at,
-        Record::VolumeIndex(_) => at,
-        Record::Order(_) => at,
-        Record::Trade(_) => at,
-        Record::Unknown(_) => at,
+// Piece j of line i of a frame: line 0 is the record's, the lines below it follow; piece 0 is the line, shown quantities follow.
+fn piece(offset: i64, kind: u32, body: &[u8], i: u32, j: u32) -> Line {
+    if i == 0 {
+        if j == 0 {
+            return line::line(offset, kind, body);
+        }
+        return words::empty();
     }
-}
-
-// The paper's number of a refusal.
-fn number(why: Refusal) -> u32 {
-    match why {
-        Refusal::NotItsLayout => 4,
-        Refusal::OutOfRange => 5,
+    if j == 0 {
+        return below::below(kind, body, i - 1);
     }
-}
-
-// The lines of a record that was read.
-fn show_record(
-    out: &mut [u8],
-    at: usize,
-    kind: u32,
-    body: &[u8],
-    r: Record,
-    texts: &[u8],
-) -> usize {
-    let a = line::line(out, at, r, texts, body.len());
-    let b = text::word(out, a, b"\n");
-    let c = window::flush(out, b, MARGIN);
-    lines_below(out, c, kind, body, r)
-}
-
-// The line of a record that is refused.
-fn show_refusal(out: &mut [u8], at: usize, kind: u32, why: Refusal) -> usize {
-    let a = line::refused(out, at, kind, number(why));
-    let b = text::word(out, a, b"\n");
-    window::flush(out, b, MARGIN)
+    below::quantity(kind, body, i - 1, j - 1)
 }
 
 // All lines of a frame at an offset.
 fn show_frame(out: &mut [u8], at: usize, offset: u64, kind: u32, body: &[u8]) -> usize {
-    let reading = record::read(kind, body);
-    let answer = reading.answer;
-    let found = reading.texts;
-    let texts = found.bytes;
-    let a = text::decimal(out, at, offset);
-    let b = text::word(out, a, b" ");
-    match answer {
-        Answer::Read(r) => show_record(out, b, kind, body, r, &texts),
-        Answer::Refused(why) => show_refusal(out, b, kind, why),
+    let mut place = at;
+    let mut i: u32 = 0;
+    let mut j: u32 = 0;
+    let mut pieces: u32 = 0;
+    while pieces < u32::MAX {
+        pieces += 1;
+        let a = window::flush(out, place, MARGIN);
+        let line = piece(wire::signed(offset), kind, body, i, j);
+        if 0 < line.number {
+            place = words::write(out, a, kind, line);
+            j += 1;
+        } else {
+            if j == 0 {
+                return a;
+            }
+            place = text::word(out, a, b"\n");
+            i += 1;
+            j = 0;
+        }
     }
+    place
 }
 
 // Shows the frames of the window's bytes.
@@ -129,23 +108,26 @@ fn show_window(bytes: &[u8], out: &mut [u8], start: Place) -> Place
     }
 }
 
-// The last line, as the listing's, and all that is gathered.
-fn finish(out: &mut [u8], place: Place) {
-    let all = GATHERED + 1;
-    let a = text::decimal(out, place.gathered, place.offset);
+// The last line, as the listing's.
+fn last(place: Place) -> Line {
+    let offset = wire::signed(place.offset);
     if place.refused == 0 {
-        let b = field::count(out, a, b" end ", place.frames);
-        let c = text::word(out, b, b"\n");
-        window::flush(out, c, all);
-        return;
+        return words::short(
+            [0u8; 24],
+            32,
+            offset,
+            wire::signed(place.frames),
+            0,
+            0,
+            0,
+            0,
+        );
     }
-    let b = field::count(out, a, b" refused ", place.refused as u64);
-    let c = text::word(out, b, b"\n");
-    window::flush(out, c, all);
+    words::short([0u8; 24], 33, offset, place.refused as i64, 0, 0, 0, 0)
 }
 
-// Shows standard input. A refusal 1 waits for more bytes while there are any; the turns are more than any input takes.
-fn show(bytes: &mut [u8], out: &mut [u8]) {
+// Shows the frames of standard input. A refusal 1 waits for more bytes while there are any; the turns are more than any input takes.
+fn show(bytes: &mut [u8], out: &mut [u8]) -> Place {
     let mut place = Place {
         from: 0,
         offset: 0,
@@ -160,17 +142,19 @@ fn show(bytes: &mut [u8], out: &mut [u8]) {
         let now_held = window::fill(bytes, held);
         place = show_window(&bytes[0..now_held], out, place);
         if (now_held == held) | (1 < place.refused) {
-            finish(out, place);
-            return;
+            return place;
         }
         let from = place.from;
         held = window::slide(bytes, from, now_held);
     }
-    finish(out, place);
+    place
 }
 
 fn main() {
     let mut bytes = [0u8; WINDOW];
     let mut out = [0u8; GATHERED];
-    show(&mut bytes, &mut out);
+    let place = show(&mut bytes, &mut out);
+    let a = words::write(&mut out, place.gathered, 0, last(place));
+    let b = text::word(&mut out, a, b"\n");
+    window::flush(&out, b, GATHERED + 1);
 }

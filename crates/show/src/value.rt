@@ -1,5 +1,5 @@
-// Values as text: numbers with their decimals, times, and texts in quotes.
-ghost use Prim.Native.Nat.{_≤_};
+// Values as text: numbers with their decimals, times, characters and texts.
+ghost use Prim.Native.Nat.{_≤_, _<_};
 ghost use lib.ListN.{length};
 
 // The sign of a number, where it has one, and the number without it.
@@ -17,68 +17,39 @@ fn magnitude(bits: u64) -> u64 {
     0xffff_ffff_ffff_ffff - bits + 1
 }
 
-// A whole number.
-pub fn whole(out: &mut [u8], at: usize, z: i64) -> usize {
-    let bits = wire::unsigned(z);
-    let a = sign(out, at, bits);
-    text::decimal(out, a, magnitude(bits))
+// A picture of at most 24 bytes, with the last digits of a number where it has zeros.
+pub fn digits(out: &mut [u8], at: usize, picture: &[u8], v: u64) -> usize {
+    let n = picture.len();
+    let mut shown = [0u8; 24];
+    if 24 < n {
+        return at;
+    }
+    wire::copy(&mut shown, 0, picture);
+    let mut rest = v;
+    let mut i = n;
+    while 0 < i {
+        i -= 1;
+        if shown[i] == b'0' {
+            shown[i] = (48 + rest % 10) as u8;
+            rest /= 10;
+        }
+    }
+    text::word(out, at, &shown[0..n])
 }
 
-// The last two, three and four digits of a number.
-fn digits2(out: &mut [u8], at: usize, v: u64) -> usize {
-    let a = text::decimal(out, at, v / 10 % 10);
-    text::decimal(out, a, v % 10)
-}
-
-fn digits3(out: &mut [u8], at: usize, v: u64) -> usize {
-    let a = text::decimal(out, at, v / 100 % 10);
-    digits2(out, a, v)
-}
-
-fn digits4(out: &mut [u8], at: usize, v: u64) -> usize {
-    let a = digits2(out, at, v / 100);
-    digits2(out, a, v)
-}
-
-// A number with two decimals, and one with four.
-pub fn hundredths(out: &mut [u8], at: usize, z: i64) -> usize {
-    let bits = wire::unsigned(z);
+// A number of units, and behind it the picture of its decimals.
+pub fn number(out: &mut [u8], at: usize, bits: u64, unit: u64, decimals: &[u8]) -> usize
+    requires { ⌜ 0 < unit ⌝ }
+{
     let v = magnitude(bits);
     let a = sign(out, at, bits);
-    let b = text::decimal(out, a, v / 100);
-    let c = text::word(out, b, b".");
-    digits2(out, c, v)
+    let b = text::decimal(out, a, v / unit);
+    digits(out, b, decimals, v)
 }
 
-pub fn decimals4(out: &mut [u8], at: usize, z: i64) -> usize {
-    let bits = wire::unsigned(z);
-    let v = magnitude(bits);
-    let a = sign(out, at, bits);
-    let b = text::decimal(out, a, v / 10000);
-    let c = text::word(out, b, b".");
-    digits4(out, c, v)
-}
-
-// A time, YYYYMMDDHHMMSSsss, as date and time.
-pub fn moment(out: &mut [u8], at: usize, z: i64) -> usize {
-    let v = wire::unsigned(z);
-    let a = digits4(out, at, v / 10000000000000);
-    let b = text::word(out, a, b"-");
-    let c = digits2(out, b, v / 100000000000);
-    let d = text::word(out, c, b"-");
-    let e = digits2(out, d, v / 1000000000);
-    let f = text::word(out, e, b" ");
-    clock(out, f, v)
-}
-
-fn clock(out: &mut [u8], at: usize, v: u64) -> usize {
-    let a = digits2(out, at, v / 10000000);
-    let b = text::word(out, a, b":");
-    let c = digits2(out, b, v / 100000);
-    let d = text::word(out, c, b":");
-    let e = digits2(out, d, v / 1000);
-    let f = text::word(out, e, b".");
-    digits3(out, f, v)
+// The last byte of a number.
+pub fn byte(v: u64) -> u8 {
+    (v % 256) as u8
 }
 
 fn hex_digit(v: u8) -> u8 {
@@ -111,14 +82,14 @@ fn trimmed(bytes: &[u8]) -> usize
     0
 }
 
-// A text in quotes, without the spaces on its right.
-pub fn quoted(out: &mut [u8], at: usize, bytes: &[u8]) -> usize {
+// A text without the spaces on its right.
+pub fn text(out: &mut [u8], at: usize, bytes: &[u8]) -> usize {
     let n = trimmed(bytes);
-    let mut place = text::word(out, at, b"\"");
+    let mut place = at;
     let mut i: usize = 0;
     while i < n {
         place = character(out, place, bytes[i]);
         i += 1;
     }
-    text::word(out, place, b"\"")
+    place
 }
