@@ -1,8 +1,25 @@
 // Requests: the bytes that are written, and the answers that write nothing.
+use crate::said;
+use crate::said::Said;
 use tracker::Requested;
 use tracker::Tracker;
 
 const CHANNEL: u16 = 2011;
+
+// A request for a channel, to an output of room bytes.
+struct Case {
+    tracker: Tracker,
+    channel: u16,
+    room: usize,
+}
+
+fn with(tracker: Tracker, channel: u16, room: usize) -> Case {
+    Case {
+        tracker,
+        channel,
+        room,
+    }
+}
 
 fn fresh() -> Tracker {
     let numbers: [u16; 1] = [CHANNEL];
@@ -10,17 +27,40 @@ fn fresh() -> Tracker {
     started.tracker
 }
 
-fn word(lines: &mut [u8], at: usize, answer: Requested) -> usize {
-    match answer {
-        Requested::Written(n) => {
-            let a = text::word(lines, at, b": written ");
-            text::decimal(lines, a, n as u64)
-        }
-        Requested::NothingMissing => text::word(lines, at, b": nothing missing"),
-        Requested::Malformed => text::word(lines, at, b": refused 10"),
-        Requested::NotInTracker => text::word(lines, at, b": refused 7"),
-        Requested::OutputShort => text::word(lines, at, b": refused 6"),
+fn after(number: i64) -> Tracker {
+    let r = fresh().tick(CHANNEL, number);
+    r.next
+}
+
+// The cases, in the order of their names.
+fn case_at(i: u64) -> Case {
+    match i {
+        0 => with(after(5), CHANNEL, 56),
+        1 => with(after(1000), CHANNEL, 56),
+        2 => with(fresh(), CHANNEL, 55),
+        3 => with(after(5), CHANNEL, 55),
+        _ => with(after(5), 2012, 55),
     }
+}
+
+fn said(answer: Requested) -> Said {
+    match answer {
+        Requested::Written(n) => said::written(n),
+        Requested::NothingMissing => said::plain(4),
+        Requested::Malformed => said::refused(10),
+        Requested::NotInTracker => said::refused(7),
+        Requested::OutputShort => said::refused(6),
+    }
+}
+
+// Asks with the first bytes of an output.
+fn tried(c: Case, out: &mut [u8]) -> Requested {
+    let t = c.tracker;
+    let room = c.room;
+    if out.len() < room {
+        return Requested::OutputShort;
+    }
+    t.request(c.channel, &mut out[0..room])
 }
 
 fn wide(b: u8) -> u64 {
@@ -39,72 +79,27 @@ fn numbers(lines: &mut [u8], at: usize, out: &[u8]) -> usize {
     place
 }
 
-// One request, with the first room bytes of an output, and what the output holds then.
-fn tried(
-    lines: &mut [u8],
-    at: usize,
-    name: &[u8],
-    t: Tracker,
-    channel: u16,
-    out: &mut [u8],
-    room: usize,
-) -> usize {
-    if out.len() < room {
-        return at;
-    }
-    let answer = t.request(channel, &mut out[0..room]);
-    let a = text::word(lines, at, name);
-    let b = word(lines, a, answer);
-    let c = numbers(lines, b, out);
-    text::word(lines, c, b"\n")
-}
-
-fn one(lines: &mut [u8], at: usize, name: &[u8], t: Tracker, channel: u16, room: usize) -> usize {
+// Case i: its name, the answer, and what the output holds then.
+fn line(lines: &mut [u8], at: usize, names: &[u8], i: u64) -> usize {
     let mut out = [7u8; 57];
-    tried(lines, at, name, t, channel, &mut out, room)
+    let answer = tried(case_at(i), &mut out);
+    let a = said::write(lines, at, names, i, said(answer));
+    let b = numbers(lines, a, &out);
+    text::word(lines, b, b"\n")
 }
 
 pub fn cases(lines: &mut [u8], at: usize) -> usize {
-    let five = fresh().tick(CHANNEL, 5);
-    let far = fresh().tick(CHANNEL, 1000);
-    let a = one(
-        lines,
-        at,
-        b"request, 1 to 4 missing",
-        five.next,
-        CHANNEL,
-        56,
-    );
-    let b = one(
-        lines,
-        a,
-        b"request, 1 to 999 missing",
-        far.next,
-        CHANNEL,
-        56,
-    );
-    let c = one(
-        lines,
-        b,
-        b"request, none missing, short",
-        fresh(),
-        CHANNEL,
-        55,
-    );
-    let d = one(
-        lines,
-        c,
-        b"request, output of 55 bytes",
-        five.next,
-        CHANNEL,
-        55,
-    );
-    one(
-        lines,
-        d,
-        b"request, channel 2012, short",
-        five.next,
-        2012,
-        55,
-    )
+    let names = b"request, 1 to 4 missing
+request, 1 to 999 missing
+request, none missing, short
+request, output of 55 bytes
+request, channel 2012, short
+";
+    let mut place = at;
+    let mut i: u64 = 0;
+    while i < 5 {
+        place = line(lines, place, names, i);
+        i += 1;
+    }
+    place
 }

@@ -1,6 +1,7 @@
 // Cases of document 01 that are run: what the writer refuses, with the output that it leaves; a full gap table; requests.
 mod asking;
 mod refused;
+mod said;
 mod table;
 
 fn main() {

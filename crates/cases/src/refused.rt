@@ -1,4 +1,6 @@
 // The writer's refusals, each with an output whose every byte is marked before.
+use crate::said;
+use crate::said::Said;
 use record::Order;
 use record::Record;
 use record::SecurityStatus;
@@ -8,47 +10,20 @@ use writer::Written;
 
 const MARK: u8 = 0xaa;
 
-// Whether every byte of an output is as it was marked.
-fn marked(out: &[u8]) -> bool {
-    let mut i: usize = 0;
-    while i < out.len() {
-        if out[i] != MARK {
-            return false;
-        }
-        i += 1;
-    }
-    true
+// A record to write, with so many bytes of texts and of groups, to an output of room bytes.
+struct Case {
+    record: Record,
+    texts: usize,
+    groups: usize,
+    room: usize,
 }
 
-fn number(why: Refusal) -> u64 {
-    match why {
-        Refusal::NotItsLayout => 4,
-        Refusal::OutOfRange => 5,
-        Refusal::TooLong => 2,
-        Refusal::OutputShort => 6,
-    }
-}
-
-// The line of a case: its name, the answer, and whether the output stands.
-fn line(lines: &mut [u8], at: usize, name: &[u8], answer: Written, stands: bool) -> usize {
-    let a = text::word(lines, at, name);
-    let b = told(lines, a, answer);
-    if stands {
-        return text::word(lines, b, b", output as it stood\n");
-    }
-    text::word(lines, b, b", output changed\n")
-}
-
-fn told(lines: &mut [u8], at: usize, answer: Written) -> usize {
-    match answer {
-        Written::Whole(n) => {
-            let a = text::word(lines, at, b": written ");
-            text::decimal(lines, a, n as u64)
-        }
-        Written::Refused(why) => {
-            let a = text::word(lines, at, b": refused ");
-            text::decimal(lines, a, number(why))
-        }
+fn with(record: Record, texts: usize, groups: usize, room: usize) -> Case {
+    Case {
+        record,
+        texts,
+        groups,
+        room,
     }
 }
 
@@ -80,149 +55,102 @@ fn status(count: u32) -> Record {
     })
 }
 
-// One case, with the first room bytes of an output.
-fn tried(
-    lines: &mut [u8],
-    at: usize,
-    name: &[u8],
-    r: Record,
-    texts: &[u8],
-    groups: &[u8],
-    out: &mut [u8],
-    room: usize,
-) -> usize {
-    if out.len() < room {
-        return at;
+// The cases, in the order of their names.
+fn case_at(i: u64) -> Case {
+    match i {
+        0 => with(Record::Unknown(390019), 0, 0, 128),
+        1 => with(order(1), 14, 0, 128),
+        2 => with(order(1), 16, 0, 128),
+        3 => with(order(1), 15, 1, 128),
+        4 => with(statistics(2), 0, 15, 128),
+        5 => with(statistics(0), 0, 15, 128),
+        6 => with(status(1), 20, 4, 128),
+        7 => with(order(0), 15, 0, 128),
+        8 => with(statistics(1092), 0, 16380, 62),
+        9 => with(order(1), 15, 0, 62),
+        _ => with(order(1), 15, 0, 63),
     }
-    let answer = writer::write(r, texts, groups, &mut out[0..room]);
-    line(lines, at, name, answer, marked(out))
 }
 
-fn one(
-    lines: &mut [u8],
-    at: usize,
-    name: &[u8],
-    r: Record,
-    texts: &[u8],
-    groups: &[u8],
-    room: usize,
-) -> usize {
+fn said(answer: Written) -> Said {
+    match answer {
+        Written::Whole(n) => said::written(n),
+        Written::Refused(why) => match why {
+            Refusal::NotItsLayout => said::refused(4),
+            Refusal::OutOfRange => said::refused(5),
+            Refusal::TooLong => said::refused(2),
+            Refusal::OutputShort => said::refused(6),
+        },
+    }
+}
+
+// The first n bytes; all where there are fewer.
+fn first(s: &[u8], n: usize) -> &[u8] {
+    if s.len() < n {
+        return s;
+    }
+    &s[0..n]
+}
+
+// Writes a case to the first bytes of an output. The texts are spaces; the first group, as a switch, has yes/no 2.
+fn tried(c: Case, out: &mut [u8]) -> Written {
+    let r = c.record;
+    let texts = [b' '; 24];
+    let mut groups = [0u8; 16380];
+    groups[3] = 2;
+    let room = c.room;
+    if out.len() < room {
+        return Written::Whole(0);
+    }
+    writer::write(
+        r,
+        first(&texts, c.texts),
+        first(&groups, c.groups),
+        &mut out[0..room],
+    )
+}
+
+// Whether every byte of an output is as it was marked.
+fn marked(out: &[u8]) -> bool {
+    let mut i: usize = 0;
+    while i < out.len() {
+        if out[i] != MARK {
+            return false;
+        }
+        i += 1;
+    }
+    true
+}
+
+// Case i: its name, the answer, and whether the output stands.
+fn line(lines: &mut [u8], at: usize, names: &[u8], i: u64) -> usize {
     let mut out = [MARK; 128];
-    tried(lines, at, name, r, texts, groups, &mut out, room)
-}
-
-fn of_texts(lines: &mut [u8], at: usize) -> usize {
-    let a = one(
-        lines,
-        at,
-        b"order, texts one short",
-        order(1),
-        b"011000001  102",
-        b"",
-        128,
-    );
-    let b = one(
-        lines,
-        a,
-        b"order, texts one long",
-        order(1),
-        b"011000001  102  ",
-        b"",
-        128,
-    );
-    one(
-        lines,
-        b,
-        b"order, a group",
-        order(1),
-        b"011000001  102 ",
-        b"0",
-        128,
-    )
-}
-
-fn of_groups(lines: &mut [u8], at: usize) -> usize {
-    let group = b"010\x00\x00\x00\x07T       ";
-    let a = one(
-        lines,
-        at,
-        b"statistics, one group of two",
-        statistics(2),
-        b"",
-        group,
-        128,
-    );
-    let b = one(
-        lines,
-        a,
-        b"statistics, one group of none",
-        statistics(0),
-        b"",
-        group,
-        128,
-    );
-    one(
-        lines,
-        b,
-        b"security status, yes/no 2",
-        status(1),
-        b"000001  102         ",
-        b"\x00\x01\x00\x02",
-        128,
-    )
-}
-
-fn of_numbers(lines: &mut [u8], at: usize) -> usize {
-    let a = one(
-        lines,
-        at,
-        b"order, number 0",
-        order(0),
-        b"011000001  102 ",
-        b"",
-        128,
-    );
-    let many = [b' '; 16380];
-    let b = one(
-        lines,
-        a,
-        b"statistics, 1,092 groups, output short too",
-        statistics(1092),
-        b"",
-        &many,
-        62,
-    );
-    let c = one(
-        lines,
-        b,
-        b"order, output of 62 bytes",
-        order(1),
-        b"011000001  102 ",
-        b"",
-        62,
-    );
-    one(
-        lines,
-        c,
-        b"order, output of 63 bytes",
-        order(1),
-        b"011000001  102 ",
-        b"",
-        63,
-    )
+    let answer = tried(case_at(i), &mut out);
+    let a = said::write(lines, at, names, i, said(answer));
+    if marked(&out) {
+        return text::word(lines, a, b", output as it stood\n");
+    }
+    text::word(lines, a, b", output changed\n")
 }
 
 pub fn cases(lines: &mut [u8], at: usize) -> usize {
-    let a = one(
-        lines,
-        at,
-        b"unlisted type 390019",
-        Record::Unknown(390019),
-        b"",
-        b"",
-        128,
-    );
-    let b = of_texts(lines, a);
-    let c = of_groups(lines, b);
-    of_numbers(lines, c)
+    let names = b"unlisted type 390019
+order, texts one short
+order, texts one long
+order, a group
+statistics, one group of two
+statistics, one group of none
+security status, yes/no 2
+order, number 0
+statistics, 1,092 groups, output short too
+order, output of 62 bytes
+order, output of 63 bytes
+";
+    let mut place = at;
+    let mut i: u64 = 0;
+    while i < 11 {
+        place = line(lines, place, names, i);
+        i += 1;
+    }
+    place
 }
