@@ -18,6 +18,9 @@ const WINDOW: usize = 4 * Frame::LIMIT;
 // Lines are gathered and written together.
 const GATHERED: usize = 65536;
 
+// The table of all lines is shorter than this.
+const TABLE: usize = 2048;
+
 // A piece of a line is shorter than this.
 const MARGIN: usize = 1024;
 
@@ -46,7 +49,14 @@ fn piece(offset: i64, kind: u32, body: &[u8], i: u32, j: u32) -> Line {
 }
 
 // All lines of a frame at an offset.
-fn show_frame(out: &mut [u8], at: usize, offset: u64, kind: u32, body: &[u8]) -> usize {
+fn show_frame(
+    out: &mut [u8],
+    at: usize,
+    table: &[u8],
+    offset: u64,
+    kind: u32,
+    body: &[u8],
+) -> usize {
     let mut place = at;
     let mut i: u32 = 0;
     let mut j: u32 = 0;
@@ -56,7 +66,7 @@ fn show_frame(out: &mut [u8], at: usize, offset: u64, kind: u32, body: &[u8]) ->
         let a = window::flush(out, place, MARGIN);
         let line = piece(wire::signed(offset), kind, body, i, j);
         if 0 < line.number {
-            place = words::write(out, a, kind, line);
+            place = words::write(out, a, table, kind, line);
             j += 1;
         } else {
             if j == 0 {
@@ -71,7 +81,7 @@ fn show_frame(out: &mut [u8], at: usize, offset: u64, kind: u32, body: &[u8]) ->
 }
 
 // Shows the frames of the window's bytes.
-fn show_window(bytes: &[u8], out: &mut [u8], start: Place) -> Place
+fn show_window(bytes: &[u8], out: &mut [u8], table: &[u8], start: Place) -> Place
     ensures { λ r. ⌜ r .from ≤ length (now (bytes .entry)) ⌝ }
 {
     let mut from: usize = 0;
@@ -82,7 +92,7 @@ fn show_window(bytes: &[u8], out: &mut [u8], start: Place) -> Place
         let part = &bytes[from..];
         match frame::read(part) {
             Framed::Whole(f) => {
-                gathered = show_frame(out, gathered, offset, f.kind, frame::body(part));
+                gathered = show_frame(out, gathered, table, offset, f.kind, frame::body(part));
                 from += f.total;
                 offset = std::num::wrapping_add_u64(offset, f.total as u64);
                 frames = std::num::wrapping_add_u64(frames, 1);
@@ -126,8 +136,15 @@ fn last(place: Place) -> Line {
     words::short([0u8; 24], 33, offset, place.refused as i64, 0, 0, 0, 0)
 }
 
+// Writes the last line, and all that is gathered.
+fn finish(out: &mut [u8], table: &[u8], place: Place) {
+    let a = words::write(out, place.gathered, table, 0, last(place));
+    let b = text::word(out, a, b"\n");
+    window::flush(out, b, GATHERED + 1);
+}
+
 // Shows the frames of standard input. A refusal 1 waits for more bytes while there are any; the turns are more than any input takes.
-fn show(bytes: &mut [u8], out: &mut [u8]) -> Place {
+fn show(bytes: &mut [u8], out: &mut [u8], table: &[u8]) -> Place {
     let mut place = Place {
         from: 0,
         offset: 0,
@@ -140,7 +157,7 @@ fn show(bytes: &mut [u8], out: &mut [u8]) -> Place {
     while 0 < turns {
         turns -= 1;
         let now_held = window::fill(bytes, held);
-        place = show_window(&bytes[0..now_held], out, place);
+        place = show_window(&bytes[0..now_held], out, table, place);
         if (now_held == held) | (1 < place.refused) {
             return place;
         }
@@ -153,8 +170,8 @@ fn show(bytes: &mut [u8], out: &mut [u8]) -> Place {
 fn main() {
     let mut bytes = [0u8; WINDOW];
     let mut out = [0u8; GATHERED];
-    let place = show(&mut bytes, &mut out);
-    let a = words::write(&mut out, place.gathered, 0, last(place));
-    let b = text::word(&mut out, a, b"\n");
-    window::flush(&out, b, GATHERED + 1);
+    let mut table = [0u8; TABLE];
+    words::lay(&mut table);
+    let place = show(&mut bytes, &mut out, &table);
+    finish(&mut out, &table, place);
 }

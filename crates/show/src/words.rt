@@ -3,7 +3,7 @@ ghost use Prim.Native.Nat.{_≤_};
 ghost use lib.ListN.{length};
 use crate::field;
 
-// A line by its number in the table below, its fields, and the texts that they name. Line 0 is empty.
+// A line by its number in the table, its fields, and the texts that they name. Line 0 is empty.
 pub struct Line {
     pub number: u64,
     pub fields: [i64; 12],
@@ -91,9 +91,21 @@ fn walk(
     place
 }
 
-// A line of a frame of a type. The lines that come most often stand first in the table.
-pub fn write(out: &mut [u8], at: usize, kind: u32, line: Line) -> usize {
-    let table = br#"
+// A line of a frame of a type.
+pub fn write(out: &mut [u8], at: usize, table: &[u8], kind: u32, line: Line) -> usize {
+    let fields = line.fields;
+    let texts = line.texts;
+    let from = start(table, line.number);
+    walk(out, at, table, from, &fields, kind, &texts)
+}
+
+// Lays the table of all lines. Line 0 is empty; 1 and 4 to 9 are entries, 10 and 11 shown quantities, 2, 3 and 12 to 20
+// records, 21 and 22 groups, 23 to 31 refused records, 32 and 33 the last line. Those that come most often stand first.
+pub fn lay(table: &mut [u8]) {
+    wire::copy(
+        table,
+        0,
+        br#"
   entry N: type "E", price P, size Q, level N, order count N
 N order: channel N, number N, stream "S", security "S", source "S", price P, quantity Q, side C, time T, order type C
 N trade: channel N, number N, stream "S", bid number N, offer number N, security "S", source "S", price P, quantity Q, execution type C, time T
@@ -127,9 +139,6 @@ N resend: refused N
 N channel heartbeat: refused N
 N end N
 N refused N
-"#;
-    let fields = line.fields;
-    let texts = line.texts;
-    let from = start(table, line.number);
-    walk(out, at, table, from, &fields, kind, &texts)
+"#,
+    );
 }

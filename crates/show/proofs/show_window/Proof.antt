@@ -10,19 +10,19 @@ use Rattle.show.proofs.show_window.Statement.{statement}
 use Rattle.show.proofs.show_window.Tie as tie
 
 abbrev Inv-loop : tie.InvT-loop
-Inv-loop bytes out₀ from₀ offset₀ frames₀ gathered₀ out from offset frames gathered = (from ≤ length bytes) × (length out ≡ length out₀)
+Inv-loop bytes out₀ table from₀ offset₀ frames₀ gathered₀ out from offset frames gathered = (from ≤ length bytes) × (length out ≡ length out₀)
 
 abbrev μ-loop : tie.MeasureT-loop
-μ-loop bytes out₀ from₀ offset₀ frames₀ gathered₀ out from offset frames gathered = length bytes - from
+μ-loop bytes out₀ table from₀ offset₀ frames₀ gathered₀ out from offset frames gathered = length bytes - from
 
 -- a whole frame takes bytes of the window
 frame-at :
     (c : tie.After-known-told Inv-loop μ-loop) →
     let from = c .before .before .before .before .before .before .loop .from in
     let n = c .before .f .given .0 .0 .total in
-    (0 < n) × (from + n ≤ length (now (c .before .before .before .before .before .before .before .before .before .args .bytes)))
+    (0 < n) × (from + n ≤ length (now (c .before .before .before .before .before .before .before .before .before .before .args .bytes)))
 frame-at c =
-    taken headerWidth bodyLimit (now (c .before .before .before .before .before .before .before .before .before .args .bytes))
+    taken headerWidth bodyLimit (now (c .before .before .before .before .before .before .before .before .before .before .args .bytes))
     (c .before .before .before .before .before .before .loop .from) _ _ (omega arith) (c .before .before .before .read .ensures)
     (c .before .f .given .1)
 
