@@ -136,7 +136,7 @@ fn number(kind: u32) -> u64 {
     }
 }
 
-fn number_refused(kind: u32) -> u64 {
+fn refused(kind: u32) -> u64 {
     match kind {
         Record::ORDER => 23,
         Record::TRADE => 24,
@@ -167,10 +167,6 @@ pub fn line(offset: i64, kind: u32, body: &[u8]) -> Line {
     let len = wire::signed(body.len() as u64);
     match answer {
         Answer::Read(r) => full(texts, number(kind), fields(offset, r, len)),
-        Answer::Refused(why) => full(
-            texts,
-            number_refused(kind),
-            few(offset, number_of(why), 0, 0),
-        ),
+        Answer::Refused(why) => full(texts, refused(kind), few(offset, number_of(why), 0, 0)),
     }
 }

@@ -121,17 +121,9 @@ fn show_window(bytes: &[u8], out: &mut [u8], table: &[u8], start: Place) -> Plac
 // The last line, as the listing's.
 fn last(place: Place) -> Line {
     let offset = wire::signed(place.offset);
+    let frames = wire::signed(place.frames);
     if place.refused == 0 {
-        return words::short(
-            [0u8; 24],
-            32,
-            offset,
-            wire::signed(place.frames),
-            0,
-            0,
-            0,
-            0,
-        );
+        return words::short([0u8; 24], 32, offset, frames, 0, 0, 0, 0);
     }
     words::short([0u8; 24], 33, offset, place.refused as i64, 0, 0, 0, 0)
 }
