@@ -18,9 +18,27 @@ fn group(kind: u32, body: &[u8], i: u32) -> Line {
     let texts = found.bytes;
     let n = i as i64;
     match answer {
-        GroupAnswer::Stream(g) => short(texts, 21, n, STREAM, g.stock_number as i64, PHASE, 0, 0),
+        GroupAnswer::Stream(g) => short(
+            texts,
+            Line::STREAM,
+            n,
+            STREAM,
+            g.stock_number as i64,
+            PHASE,
+            0,
+            0,
+        ),
         GroupAnswer::Switch(g) => {
-            short(texts, 22, n, g.switch_type as i64, g.yes_no as i64, 0, 0, 0)
+            short(
+                texts,
+                Line::SWITCH,
+                n,
+                g.switch_type as i64,
+                g.yes_no as i64,
+                0,
+                0,
+                0,
+            )
         }
         GroupAnswer::NoSuchEntry => empty(),
         GroupAnswer::Refused(_) => empty(),
@@ -37,18 +55,45 @@ fn entry(i: i64, t: i64, says: Says) -> Line {
             level,
             order_count,
             shown: _,
-        } => short(none, 1, i, t, entry_price, size, level as i64, order_count),
+        } => short(
+            none,
+            Line::LEVEL,
+            i,
+            t,
+            entry_price,
+            size,
+            level as i64,
+            order_count,
+        ),
         Says::LevelWithoutPrice {
             size,
             level,
             order_count,
             shown: _,
-        } => short(none, 4, i, t, size, level as i64, order_count, 0),
-        Says::Price { entry_price } => short(none, 5, i, t, entry_price, 0, 0, 0),
-        Says::Size { size } => short(none, 6, i, t, size, 0, 0, 0),
-        Says::Both { entry_price, size } => short(none, 7, i, t, entry_price, size, 0, 0),
-        Says::NoLimit => short(none, 8, i, t, 0, 0, 0, 0),
-        Says::Unknown => short(none, 9, i, t, 0, 0, 0, 0),
+        } => short(
+            none,
+            Line::LEVEL_WITHOUT_PRICE,
+            i,
+            t,
+            size,
+            level as i64,
+            order_count,
+            0,
+        ),
+        Says::Price { entry_price } => short(none, Line::PRICE, i, t, entry_price, 0, 0, 0),
+        Says::Size { size } => short(none, Line::SIZE, i, t, size, 0, 0, 0),
+        Says::Both { entry_price, size } => short(
+            none,
+            Line::PRICE_AND_SIZE,
+            i,
+            t,
+            entry_price,
+            size,
+            0,
+            0,
+        ),
+        Says::NoLimit => short(none, Line::NO_LIMIT, i, t, 0, 0, 0, 0),
+        Says::Unknown => short(none, Line::UNKNOWN, i, t, 0, 0, 0, 0),
     }
 }
 
@@ -69,7 +114,11 @@ pub fn below(kind: u32, body: &[u8], i: u32) -> Line {
 
 // Shown quantity j of entry i; the empty line where there is none.
 pub fn quantity(kind: u32, body: &[u8], i: u32, j: u32) -> Line {
-    let number = if j == 0 { 10 } else { 11 };
+    let number = if j == 0 {
+        Line::FIRST_QUANTITY
+    } else {
+        Line::QUANTITY
+    };
     match entries::quantity_of(kind, body, i, j) {
         AskedQuantity::Found(z) => short([0u8; 24], number, z, 0, 0, 0, 0, 0),
         AskedQuantity::NoSuchEntry => empty(),

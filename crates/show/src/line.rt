@@ -119,7 +119,7 @@ fn fields(offset: i64, r: Record, len: i64) -> [i64; 12] {
     }
 }
 
-// The numbers of a type's lines: read, and refused.
+// The lines of the table for a type: read, and refused.
 fn number(kind: u32) -> u64 {
     match kind {
         Record::ORDER => 2,

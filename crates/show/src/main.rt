@@ -123,9 +123,18 @@ fn last(place: Place) -> Line {
     let offset = wire::signed(place.offset);
     let frames = wire::signed(place.frames);
     if place.refused == 0 {
-        return words::short([0u8; 24], 32, offset, frames, 0, 0, 0, 0);
+        return words::short([0u8; 24], Line::END, offset, frames, 0, 0, 0, 0);
     }
-    words::short([0u8; 24], 33, offset, place.refused as i64, 0, 0, 0, 0)
+    words::short(
+        [0u8; 24],
+        Line::REFUSED,
+        offset,
+        place.refused as i64,
+        0,
+        0,
+        0,
+        0,
+    )
 }
 
 // Writes the last line, and all that is gathered.

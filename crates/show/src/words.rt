@@ -10,6 +10,35 @@ pub struct Line {
     pub texts: [u8; 24],
 }
 
+// The lines of the table that are no record's.
+impl Line {
+    pub const LEVEL: u64 = 1;
+
+    pub const LEVEL_WITHOUT_PRICE: u64 = 4;
+
+    pub const PRICE: u64 = 5;
+
+    pub const SIZE: u64 = 6;
+
+    pub const PRICE_AND_SIZE: u64 = 7;
+
+    pub const NO_LIMIT: u64 = 8;
+
+    pub const UNKNOWN: u64 = 9;
+
+    pub const FIRST_QUANTITY: u64 = 10;
+
+    pub const QUANTITY: u64 = 11;
+
+    pub const STREAM: u64 = 21;
+
+    pub const SWITCH: u64 = 22;
+
+    pub const END: u64 = 32;
+
+    pub const REFUSED: u64 = 33;
+}
+
 pub fn full(texts: [u8; 24], number: u64, fields: [i64; 12]) -> Line {
     Line {
         number,
