@@ -1,6 +1,5 @@
 // A channel's row of runs in a tracker's arrays: searched for a number, cut, grown and laid.
 ghost use mathlib.Core.Path.{_≡_};
-ghost use Prim.Native.Nat.{_*_};
 ghost use lib.ListN.{take};
 ghost use Rattle.gaps.specs.Gaps.{run, cutAll};
 ghost use Rattle.gaps.specs.Built.{packed, padded};
@@ -11,9 +10,6 @@ ghost use Rattle.rows.specs.Gap.{gapIn};
 use gaps::Run;
 use gaps::Runs;
 use seats::Seat;
-
-// The largest number that an arrival can bring.
-const MOST: u64 = 9_223_372_036_854_775_807;
 
 // Whether a run holds a number: at an end, where the run at that place is left as from first to last, or within.
 pub enum Held {
@@ -88,7 +84,7 @@ pub fn room<'a>(
 ) -> Gap
     ensures { λ r. ⌜ r ≡ gapIn (now (first .entry)) (now (last .entry)) at count highest ⌝ }
 {
-    if there(at, count) & (highest <= MOST) {
+    if there(at, count) & (highest <= Seat::MOST) {
         if count == 0 {
             return Gap {
                 full: false,

@@ -17,4 +17,7 @@ impl Seat {
 
     // The places of all channels' runs.
     pub const PLACES: usize = Seat::COUNT * Runs::LIMIT;
+
+    // The largest number that an arrival can bring.
+    pub const MOST: u64 = 9_223_372_036_854_775_807;
 }

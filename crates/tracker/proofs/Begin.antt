@@ -1,12 +1,12 @@
 -- The set-up, by whether the channel numbers can be listed.
 use Prim.Native.Nat.{ℕ, _≤_}
-use mathlib.Core.Path.{_≡_, refl, sym, _∙_}
+use mathlib.Core.Path.{_≡_, refl}
 use mathlib.Core.List.{List, []}
 use mathlib.Core.Bool.{Bool, true, false, not, _&&_, true≢false, false≢true}
 use lib.Dec.{ltb, eqb}
 use lib.ListN.{length}
 use borrow.Author.Tests.{ltb-false, not-true}
-use Rattle.wire.specs.Answer.{Answer, accepted, refused, guard}
+use Rattle.wire.specs.Answer.{accepted, refused, guard}
 use Rattle.wire.specs.Refusal.{malformed}
 use Rattle.gaps.proofs.Numbers.{and-split}
 use Rattle.seats.specs.Rules.{ascends, listed}

@@ -8,7 +8,6 @@ use lib.Dec.{eqb}
 use lib.ListN.{length, take, getD, set, replicate, length-append, length-set}
 use lib.Seq.{sets, set-getD, set-at, set-append-left, getD-set-other}
 use borrow.Author.Tests.{eqb-true}
-use Rattle.gaps.specs.declared.Run.{Run}
 use Rattle.gaps.specs.Gaps.{run}
 use Rattle.gaps.specs.Built.{firsts, lasts, padded}
 use Rattle.gaps.proofs.Numbers.{and-split}

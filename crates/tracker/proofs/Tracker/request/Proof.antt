@@ -1,4 +1,3 @@
-use native.Mathlib.Omega.{arith}
 use denote.Ref.{now}
 use mathlib.Core.Path.{ap, sym, _∙_}
 use Rattle.wire.specs.Answer.{andThen}
