@@ -7,6 +7,7 @@ A line for each edit says on which call the comparison differed first.
     python3 compare/broken.py [NAME/EDIT...]
 """
 
+import os
 import re
 import shutil
 import subprocess
@@ -16,6 +17,12 @@ from pathlib import Path
 
 TOP = Path(__file__).resolve().parent.parent
 RUN = ["200000", "20170401"]
+TARGET = os.environ.get("CARGO_BUILD_TARGET")
+
+
+def of_target(name):
+    """A variable of cargo's for the target, as `.ci/run` sets it."""
+    return os.environ[f"CARGO_TARGET_{TARGET.upper().replace('-', '_')}_{name}"]
 
 
 def crates():
@@ -47,16 +54,19 @@ def archive(scratch, sources):
 
 
 def rustc(*words):
-    """Runs the Rust compiler as cargo does for a release."""
+    """Runs the Rust compiler as cargo does for a release, and by its variables."""
     flags = ["--edition", "2021", "-O", "-C", "overflow-checks=on"]
-    subprocess.run(["rustc", *flags, *words], check=True, cwd=TOP / "compare")
+    if TARGET:
+        flags += ["--target", TARGET, "-C", f"linker={of_target('LINKER')}"]
+    subprocess.run([os.environ.get("RUSTC", "rustc"), *flags, *words], check=True, cwd=TOP / "compare")
 
 
 def first_difference(scratch):
     """The call of the first difference between archive and second program."""
     words = ["--extern", f"compare={scratch}/libcompare.rlib", "-o", scratch / "longer"]
     rustc("src/bin/longer.rs", *words, "-C", f"link-arg={scratch}/libboard.a")
-    ran = subprocess.run([scratch / "longer", *RUN], capture_output=True, text=True)
+    runner = [of_target("RUNNER")] if TARGET else []
+    ran = subprocess.run([*runner, scratch / "longer", *RUN], capture_output=True, text=True)
     told = re.search(r"^difference at input (\d+) .*?^call: +(.*?)$", ran.stdout, re.M | re.S)
     if told:
         return f"{re.split(r' on Tracker| Cursor', told[2])[0]} (input {told[1]})"
