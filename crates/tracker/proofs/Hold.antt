@@ -17,7 +17,7 @@ use Rattle.rows.specs.declared.Held.the-variants.{No, AtEnd, Within}
 use Rattle.rows.specs.Held.{leftAt, sought, heldIn}
 use Rattle.rows.proofs.Row.{yes-there}
 use Rattle.rows.proofs.Found.{held-row}
-use Rattle.tracker.specs.Inside.{Finds, finds-no, finds-end, finds-within}
+use Rattle.tracker.proofs.Told.{Finds, finds-no, finds-end, finds-within}
 
 -- a number below every run is in none
 has-below : (lo h : ℕ) (l : List Run) (n : ℕ) → canon lo h l ≡ true → n < lo → has l n ≡ false

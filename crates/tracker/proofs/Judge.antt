@@ -36,7 +36,8 @@ use Rattle.tracker.specs.Rules.{wellFormed}
 use Rattle.tracker.specs.Arrived.{on, place, settled, arrived}
 use Rattle.rows.specs.declared.Held.{Held}
 use Rattle.rows.specs.declared.Held.the-variants.{No, AtEnd, Within}
-use Rattle.tracker.specs.Inside.{Judges, stored, Room, Finds, finds-no, finds-end, finds-within}
+use Rattle.tracker.specs.Inside.{Judges, stored}
+use Rattle.tracker.proofs.Told.{Room, Finds, finds-no, finds-end, finds-within}
 use Rattle.tracker.proofs.Row.{span-length, span-at}
 use Rattle.tracker.proofs.Hold.{held-at}
 use Rattle.tracker.proofs.Signed.{natural-one, natural-pos}

@@ -1,6 +1,7 @@
 pub mod Signed
 pub mod Row
 pub mod Begin
+pub mod Told
 pub mod Hold
 pub mod Room
 pub mod Put

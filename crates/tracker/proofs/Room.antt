@@ -14,7 +14,7 @@ use Rattle.rows.specs.declared.Gap.{Gap}
 use Rattle.rows.specs.Gap.{full, placed, gapIn}
 use Rattle.rows.proofs.Row.{span-last, yes-there}
 use Rattle.seats.specs.Places.{span}
-use Rattle.tracker.specs.Inside.{Room, Grows}
+use Rattle.tracker.proofs.Told.{Room, Grows}
 use Rattle.tracker.proofs.Row.{span-length, span-take}
 
 abbrev gap : Bool → ℕ → ℕ → Gap

@@ -1,13 +1,12 @@
 -- What the private functions of the crate promise to one another.
-use Prim.Native.Nat.{ℕ, _+_, _*_, _≤_, _<_}
+use Prim.Native.Nat.{ℕ, _*_, _≤_, _<_}
 use mathlib.Core.Path.{_≡_}
-use mathlib.Core.List.{List, [], _∷_, _++_}
+use mathlib.Core.List.{List, []}
 use mathlib.Core.Bool.{Bool, true, false, cond}
 use lib.Dec.{ltb}
-use lib.ListN.{length, take, getD}
+use lib.ListN.{length, getD}
 use Rattle.wire.specs.Answer.{Answer, accepted, refused}
 use Rattle.gaps.specs.declared.Run.{Run}
-use Rattle.gaps.specs.Gaps.{run, has, cut, grow}
 use Rattle.wire.specs.Refusal.{noSuchChannel, tableFull, malformed}
 use Rattle.gaps.specs.Limits.{runLimit}
 use Rattle.gaps.specs.Channel.{Event, Said, tooLow, judged}
@@ -16,10 +15,7 @@ use Rattle.tracker.specs.declared.Wanted.{Wanted}
 use Rattle.tracker.specs.declared.Wanted.the-variants as wanted
 use Rattle.tracker.specs.declared.Judged.{Judged}
 use Rattle.tracker.specs.declared.Judged.the-variants.{Refused, At}
-use Rattle.rows.specs.declared.Gap.{Gap}
-use Rattle.rows.specs.declared.Held.{Held}
-use Rattle.rows.specs.declared.Held.the-variants.{No, AtEnd, Within}
-use Rattle.seats.specs.Places.{channelLimit, span}
+use Rattle.seats.specs.Places.{channelLimit}
 use Rattle.tracker.specs.Places.{channel, put}
 use Rattle.seats.specs.Rules.{soundRow}
 use Rattle.tracker.specs.Arrived.{Outcome, on, settled, arrived, saidOf}
@@ -48,24 +44,6 @@ pub record Kept (t : Tracker) (i : ℕ) : Type 0 where
 abbrev pub Judges : Tracker → ℕ → Bool → Judged → Type 0
 Judges t k low (Refused v) = (e : Event) → tooLow e ≡ low → arrived t (on k e) ≡ record { said = saidOf v; next = t }
 Judges t k low (At i) = (low ≡ false) × Kept t i × ((e : Event) → arrived t (on k e) ≡ settled t i (judged (channel t i) e))
-
--- no run holds n; or the run at place j does, and is left as one other run; or a run does
-pub data Finds (f l : List ℕ) (b count n : ℕ) : Held → Type 0 where
-  finds-no : has (span f l b count) n ≡ false → Finds f l b count n No
-  finds-end : (j : ℕ) (x : Run) → j < count → getD f (b + j) 0 ≤ n → n ≤ getD l (b + j) 0 →
-      cut (run (getD f (b + j) 0) (getD l (b + j) 0)) n ≡ x ∷ [] → Finds f l b count n (AtEnd (b + j) (x .first) (x .last))
-  finds-within : has (span f l b count) n ≡ true → Finds f l b count n Within
-
--- where the numbers behind the highest h go: a place of the row, and the first number of the run there
-pub record Room (f l : List ℕ) (b held h : ℕ) (g : Gap) : Type 0 where
-  pub within : g .at < runLimit
-  pub low : g .at ≤ held
-  pub high : held ≤ g .at + 1
-  pub grown : (m : ℕ) → grow (span f l b held) h m ≡ take (g .at) (span f l b held) ++ (run (g .first) m ∷ [])
-
-pub record Grows (f l : List ℕ) (b held h : ℕ) (g : Gap) : Type 0 where
-  pub over : g .full ≡ true → (m : ℕ) → runLimit < length (grow (span f l b held) h m)
-  pub room : g .full ≡ false → Room f l b held h g
 
 -- 9 where these runs are more than 32, else this answer and the record with them
 unfoldable pub stored : Tracker → ℕ → Answer Said → ℕ → Bool → List Run → Outcome
