@@ -11,6 +11,8 @@ use seats::Seat;
 use tracker::Start;
 use tracker::Tracker;
 use tracker::Verdict;
+use tracker::heartbeat_in;
+use tracker::tick_in;
 
 #[repr(C)]
 pub struct StartAnswer {
@@ -54,52 +56,6 @@ pub extern "C" fn orizhgum_set_up(channels: &[u16]) -> StartAnswer
     }
 }
 
-// The tracker that lent arrays hold.
-pub(crate) fn held<'a>(
-    count: usize,
-    numbers: &'a [u16; Tracker::CHANNELS],
-    highest: &'a [u64; Tracker::CHANNELS],
-    ended: &'a [u8; Tracker::CHANNELS],
-    counts: &'a [usize; Tracker::CHANNELS],
-    first: &'a [u64; Seat::PLACES],
-    last: &'a [u64; Seat::PLACES],
-) -> Tracker
-    ensures { λ r. ⌜ r ≡ heldIn count (now (numbers .entry)) (now (highest .entry)) (now (ended .entry)) (now (counts .entry)) (now (first .entry)) (now (last .entry)) ⌝ }
-{
-    Tracker {
-        count: count,
-        numbers: *numbers,
-        highest: *highest,
-        ended: *ended,
-        counts: *counts,
-        first: *first,
-        last: *last,
-    }
-}
-
-// The arrays of the next tracker, but for those that no arrival changes.
-fn lay(
-    next: Tracker,
-    highest: &mut [u64; Tracker::CHANNELS],
-    ended: &mut [u8; Tracker::CHANNELS],
-    counts: &mut [usize; Tracker::CHANNELS],
-    first: &mut [u64; Seat::PLACES],
-    last: &mut [u64; Seat::PLACES],
-)
-    ensures { λ _. ⌜ (now (highest .exit) ≡ next .highest) × ((now (ended .exit) ≡ next .ended) × ((now (counts .exit) ≡ next .counts) × ((now (first .exit) ≡ next .first) × (now (last .exit) ≡ next .last)))) ⌝ }
-{
-    let c = next.highest;
-    *highest = c;
-    let c = next.ended;
-    *ended = c;
-    let c = next.counts;
-    *counts = c;
-    let c = next.first;
-    *first = c;
-    let c = next.last;
-    *last = c;
-}
-
 // A tick on a channel of the tracker that the arrays hold, which become those of the next one; a refusal leaves them as they stood.
 #[no_mangle]
 pub extern "C" fn orizhgum_tick_in(
@@ -115,12 +71,17 @@ pub extern "C" fn orizhgum_tick_in(
 ) -> u32
     ensures { λ r. ⌜ left r count (now (numbers .entry)) (now (highest .exit)) (now (ended .exit)) (now (counts .exit)) (now (first .exit)) (now (last .exit)) ≡ arrivalAnswer (arrived (heldIn count (now (numbers .entry)) (now (highest .entry)) (now (ended .entry)) (now (counts .entry)) (now (first .entry)) (now (last .entry))) (on channel (tick number))) ⌝ }
 {
-    let t = held(count, numbers, highest, ended, counts, first, last);
-    let r = t.tick(channel, number);
-    let verdict = r.verdict;
-    let next = r.next;
-    lay(next, highest, ended, counts, first, last);
-    verdict_number(verdict)
+    verdict_number(tick_in(
+        count,
+        numbers,
+        highest,
+        ended,
+        counts,
+        first,
+        last,
+        channel,
+        number,
+    ))
 }
 
 // A channel heartbeat, in the same way; end 0 is no, anything else yes.
@@ -139,10 +100,16 @@ pub extern "C" fn orizhgum_heartbeat_in(
 ) -> u32
     ensures { λ r. ⌜ left r count (now (numbers .entry)) (now (highest .exit)) (now (ended .exit)) (now (counts .exit)) (now (first .exit)) (now (last .exit)) ≡ arrivalAnswer (arrived (heldIn count (now (numbers .entry)) (now (highest .entry)) (now (ended .entry)) (now (counts .entry)) (now (first .entry)) (now (last .entry))) (on channel (heartbeat «last_number» (ending end)))) ⌝ }
 {
-    let t = held(count, numbers, highest, ended, counts, first, last);
-    let r = t.heartbeat(channel, last_number, end != 0);
-    let verdict = r.verdict;
-    let next = r.next;
-    lay(next, highest, ended, counts, first, last);
-    verdict_number(verdict)
+    verdict_number(heartbeat_in(
+        count,
+        numbers,
+        highest,
+        ended,
+        counts,
+        first,
+        last,
+        channel,
+        last_number,
+        end != 0,
+    ))
 }

@@ -5,11 +5,11 @@ ghost use Rattle.board.specs.Arrivals.{heldIn};
 ghost use Rattle.board.specs.Requested.{requestAnswer};
 use crate::answers::NOTHING_MISSING;
 use crate::answers::PLAIN;
-use crate::arrivals::held;
 use crate::written::WriteAnswer;
 use seats::Seat;
 use tracker::Requested;
 use tracker::Tracker;
+use tracker::request_in;
 
 #[no_mangle]
 pub extern "C" fn orizhgum_request_in<'a>(
@@ -26,8 +26,17 @@ pub extern "C" fn orizhgum_request_in<'a>(
     ensures { λ r. ⌜ r ≡ requestAnswer (answering (heldIn count (now (numbers .entry)) (now (highest .entry)) (now (ended .entry)) (now (counts .entry)) (now (first .entry)) (now (last .entry))) channel (now (out .entry))) ⌝ }
     ensures { λ r. ⌜ now (out .exit) ≡ leaving (heldIn count (now (numbers .entry)) (now (highest .entry)) (now (ended .entry)) (now (counts .entry)) (now (first .entry)) (now (last .entry))) channel (now (out .entry)) ⌝ }
 {
-    let t = held(count, numbers, highest, ended, counts, first, last);
-    match t.request(channel, out) {
+    match request_in(
+        count,
+        numbers,
+        highest,
+        ended,
+        counts,
+        first,
+        last,
+        channel,
+        out,
+    ) {
         Requested::Written(n) => WriteAnswer {
             answer: PLAIN,
             written: n,

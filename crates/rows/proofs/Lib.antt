@@ -1,3 +1,4 @@
 pub mod Row
 pub mod Found
 pub mod Begin
+pub mod Shift

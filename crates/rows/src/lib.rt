@@ -1,21 +1,22 @@
-// A channel's row of runs in a tracker's arrays: searched for a number, cut, grown and laid.
+// A channel's row of runs in a tracker's arrays: searched for a number, grown, closed up and opened.
 ghost use mathlib.Core.Path.{_≡_};
 ghost use lib.ListN.{take};
-ghost use Rattle.gaps.specs.Gaps.{run, cutAll};
-ghost use Rattle.gaps.specs.Built.{packed, padded};
+ghost use Rattle.gaps.specs.Gaps.{run};
+ghost use Rattle.gaps.specs.Built.{padded};
 ghost use Rattle.seats.specs.Places.{channelLimit};
-ghost use Rattle.rows.specs.Row.{there, row, laid};
+ghost use Rattle.rows.specs.Row.{there};
 ghost use Rattle.rows.specs.Held.{leftAt, heldIn};
 ghost use Rattle.rows.specs.Gap.{gapIn};
-use gaps::Run;
+ghost use Rattle.rows.specs.Shift.{closed, opened};
 use gaps::Runs;
 use seats::Seat;
 
-// Whether a run holds a number: at an end, where the run at that place is left as from first to last, or within.
+// Whether a run holds a number, and the place of that run: at an end, where it is left as from first to last; alone in it; or between others.
 pub enum Held {
     No,
     AtEnd(usize, u64, u64),
-    Within,
+    Alone(usize),
+    Inside(usize),
 }
 
 // Where new missing numbers go: the place in the row and the first number of the run there, or full.
@@ -43,12 +44,12 @@ fn left(p: usize, a: u64, e: u64, n: u64) -> Held
         if n < e {
             return Held::AtEnd(p, n + 1, e);
         }
-        return Held::Within;
+        return Held::Alone(p);
     }
     if n == e {
         return Held::AtEnd(p, a, n - 1);
     }
-    Held::Within
+    Held::Inside(p)
 }
 
 // Whether a run of the row holds n, by the first that does not end below n, and what is left of it where n is its end.
@@ -116,43 +117,35 @@ pub fn room<'a>(
     }
 }
 
-// The runs of the row without n.
-pub fn without<'a>(
-    first: &'a [u64; Seat::PLACES],
-    last: &'a [u64; Seat::PLACES],
-    at: usize,
-    count: usize,
-    n: u64,
-) -> Runs
-    ensures { λ r. ⌜ r ≡ packed (cutAll (row (now (first .entry)) (now (last .entry)) at count) n) ⌝ }
+// The numbers behind place p, up to place q, move one place down, and zero stands at q; nothing changes where these are no places.
+pub fn close(all: &mut [u64; Seat::PLACES], p: usize, q: usize)
+    ensures { λ r. ⌜ now (all .exit) ≡ closed (now (all .entry)) p q ⌝ }
 {
-    let mut out = Runs::new();
-    if there(at, count) {
-        let b = at * Runs::LIMIT;
-        let mut i: usize = 0;
-        while i < count {
-            let run = Run {
-                first: first[b + i],
-                last: last[b + i],
-            };
-            out = out.cut(run, n);
+    if (p <= q) & (q < Seat::PLACES) {
+        let mut i = p;
+        while i < q {
+            let next = all[i + 1];
+            all[i] = next;
             i += 1;
         }
+        all[q] = 0;
     }
-    out
 }
 
-// A row's numbers laid over the places of the channel at a place; no place, no change.
-pub fn lay(all: &mut [u64; Seat::PLACES], at: usize, row: [u64; Runs::LIMIT])
-    ensures { λ r. ⌜ now (all .exit) ≡ laid (now (all .entry)) at row ⌝ }
+// A number goes to place p, and those from there on move one place up, to place q; nothing changes where these are no places.
+pub fn open(all: &mut [u64; Seat::PLACES], p: usize, q: usize, number: u64)
+    ensures { λ r. ⌜ now (all .exit) ≡ opened (now (all .entry)) p q number ⌝ }
 {
-    if at < Seat::COUNT {
-        let b = at * Runs::LIMIT;
-        let mut i: usize = 0;
-        while i < Runs::LIMIT {
-            all[b + i] = row[i];
+    if (p <= q) & (q < Seat::PLACES) {
+        let mut carried = number;
+        let mut i = p;
+        while i < q {
+            let next = all[i];
+            all[i] = carried;
+            carried = next;
             i += 1;
         }
+        all[q] = carried;
     }
 }
 

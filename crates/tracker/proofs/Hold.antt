@@ -2,22 +2,22 @@
 use Prim.Native.Nat.{ℕ, zero, suc, _+_, _*_, _-_, _≤_, _<_}
 use native.Mathlib.Omega.{arith}
 use mathlib.Core.Path.{_≡_, refl}
+use mathlib.Core.Logic.{⊎-elim}
 use mathlib.Core.List.{List, [], _∷_}
 use mathlib.Core.Bool.{Bool, true, false, cond, _&&_, and-false, or-true}
-use lib.Dec.{leb, ltb, eqb}
+use lib.Dec.{leb}
 use lib.ListN.{getD}
-use borrow.Author.Tests.{le-leb, lt-leb, leb-true, leb-false, ltb-true, ltb-false, eqb-true, eqb-false}
+use borrow.Author.Tests.{le-leb, lt-leb, lt-ltb, leb-true, leb-false}
 use Rattle.gaps.specs.declared.Run.{Run}
-use Rattle.gaps.specs.Gaps.{run, has, cut, canon}
-use Rattle.gaps.proofs.Cut.{cut-front, cut-back}
+use Rattle.gaps.specs.Gaps.{run, has, canon}
+use Rattle.gaps.proofs.Numbers.{lt-or-le}
 use Rattle.gaps.proofs.Sets.{canon-yes, yes-canon, low, has-in}
 use Rattle.seats.specs.Places.{span}
 use Rattle.rows.specs.declared.Held.{Held}
-use Rattle.rows.specs.declared.Held.the-variants.{No, AtEnd, Within}
 use Rattle.rows.specs.Held.{leftAt, sought, heldIn}
 use Rattle.rows.proofs.Row.{yes-there}
 use Rattle.rows.proofs.Found.{held-row}
-use Rattle.tracker.proofs.Told.{Finds, finds-no, finds-end, finds-within}
+use Rattle.tracker.proofs.Told.{Finds, finds-no, finds-run}
 
 -- a number below every run is in none
 has-below : (lo h : ℕ) (l : List Run) (n : ℕ) → canon lo h l ≡ true → n < lo → has l n ≡ false
@@ -44,11 +44,10 @@ module _ (f l : List ℕ) (b count n : ℕ) where
   later : (s : Held) → getD l b 0 < n → Finds f l (suc b) count n s → Finds f l b (suc count) n s
   unfolding has span
   later s h (finds-no a) = finds-no (rw (lt-leb n (getD l b 0) h, and-false (leb (getD f b 0) n), a))
-  later s h (finds-end j x m p q c) =
+  later s h (finds-run j m p q) =
       let e : suc b + j ≡ b + suc j = omega arith in
-      let y : Finds f l b (suc count) n (AtEnd (b + suc j) (x .first) (x .last)) = finds-end (suc j) x (omega arith) (rw (← e) p) (rw (← e) q) (rw (← e) c) in
+      let y : Finds f l b (suc count) n (leftAt (b + suc j) (run (getD f (b + suc j) 0) (getD l (b + suc j) 0)) n) = finds-run (suc j) (omega arith) (rw (← e) p) (rw (← e) q) in
       rw (← e) at y
-  later s h (finds-within a) = finds-within (rw (a, or-true (leb (getD f b 0) n && leb n (getD l b 0))))
 
   -- the first run does not
   module _ (lo h : ℕ) (o : canon lo h (span f l b (suc count)) ≡ true) (q : n ≤ getD l b 0) where
@@ -58,34 +57,18 @@ module _ (f l : List ℕ) (b count n : ℕ) where
         let c = canon-yes lo h (run (getD f b 0) (getD l b 0) ∷ span f l (suc b) count) o in
         has-below (getD f b 0) h (run (getD f b 0) (getD l b 0) ∷ span f l (suc b) count) n (yes-canon (getD f b 0) h (run (getD f b 0) (getD l b 0) ∷ span f l (suc b) count) (omega arith, c .1, c .2, c .3)) p
 
-    module _ (p : getD f b 0 ≤ n) where
-      there : b + 0 ≡ b
-      there = omega arith
+    here-none : n < getD f b 0 → Finds f l b (suc count) n (leftAt b (run (getD f b 0) (getD l b 0)) n)
+    unfolding leftAt
+    here-none p = rw (lt-ltb n (getD f b 0) p) (finds-no (below p))
 
-      held : has (span f l b (suc count)) n ≡ true
-      held = held-at f l b (suc count) 0 n (omega arith) (rw there p) (rw there q)
-
-      ends : (x : Run) → cut (run (getD f b 0) (getD l b 0)) n ≡ x ∷ [] → Finds f l b (suc count) n (AtEnd b (x .first) (x .last))
-      ends x c =
-          let y : Finds f l b (suc count) n (AtEnd (b + 0) (x .first) (x .last)) = finds-end 0 x (omega arith) (rw there p) (rw there q) (rw there c) in
-          rw there at y
+    here-run : getD f b 0 ≤ n → Finds f l b (suc count) n (leftAt b (run (getD f b 0) (getD l b 0)) n)
+    here-run p =
+        let e : b + 0 ≡ b = omega arith in
+        let y : Finds f l b (suc count) n (leftAt (b + 0) (run (getD f (b + 0) 0) (getD l (b + 0) 0)) n) = finds-run 0 (omega arith) (rw e p) (rw e q) in
+        rw e at y
 
     here : Finds f l b (suc count) n (leftAt b (run (getD f b 0) (getD l b 0)) n)
-    unfolding leftAt
-    here = go (ltb n (getD f b 0)) refl (eqb n (getD f b 0)) refl (ltb n (getD l b 0)) refl (eqb n (getD l b 0)) refl
-      where
-        r : Run
-        r = run (getD f b 0) (getD l b 0)
-
-        go : (x : Bool) → ltb n (getD f b 0) ≡ x → (y : Bool) → eqb n (getD f b 0) ≡ y → (z : Bool) → ltb n (getD l b 0) ≡ z → (v : Bool) → eqb n (getD l b 0) ≡ v →
-            Finds f l b (suc count) n (cond x No (cond y (cond z (AtEnd b (n + 1) (getD l b 0)) Within) (cond v (AtEnd b (getD f b 0) (n - 1)) Within)))
-        go true p y e z t v u = finds-no (below (ltb-true n (getD f b 0) p))
-        go false p true e true t v u = ends (ltb-false n (getD f b 0) p) (run (n + 1) (getD l b 0)) (cut-front r n (eqb-true n (getD f b 0) e) (ltb-true n (getD l b 0) t))
-        go false p true e false t v u = finds-within (held (ltb-false n (getD f b 0) p))
-        go false p false e z t true u =
-            let g = ltb-false n (getD f b 0) p in
-            ends g (run (getD f b 0) (n - 1)) (cut-back r n (omega (arith, g, eqb-false n (getD f b 0) e)) (eqb-true n (getD l b 0) u))
-        go false p false e z t false u = finds-within (held (ltb-false n (getD f b 0) p))
+    here = ⊎-elim here-none here-run (lt-or-le n (getD f b 0))
 
 finds-in : (f l : List ℕ) (lo h b count n : ℕ) → canon lo h (span f l b count) ≡ true → Finds f l b count n (sought b (span f l b count) n)
 unfolding sought span has

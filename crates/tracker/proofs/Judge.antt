@@ -5,22 +5,19 @@ use mathlib.Core.Path.{_≡_, refl, ap, sym, _∙_}
 use mathlib.Core.Logic.{inl, inr}
 use mathlib.Core.List.{List, [], _∷_, _++_}
 use mathlib.Core.Bool.{Bool, true, false, cond, _||_}
-use lib.Dec.{ltb}
+use lib.Dec.{ltb, eqb}
 use lib.IntN.{ℤ, pos}
 use lib.Signed.{ltZ}
 use lib.ListN.{length, take, drop, getD, set, length-append, length-set}
 use lib.Seq.{sets, set-split, set-getD, length-take-le}
-use borrow.Author.Tests.{lt-ltb, le-ltb, lt-leb, le-leb, ltb-true, ltb-false}
+use borrow.Author.Tests.{lt-ltb, le-ltb, lt-leb, le-leb, ltb-true, ltb-false, eqb-true, eqb-false}
 use Rattle.wire.specs.Answer.{Answer, accepted, refused, guard}
 use Rattle.gaps.specs.declared.Run.{Run}
-use Rattle.gaps.specs.declared.Runs.{Runs}
 use Rattle.gaps.specs.Gaps.{run, larger, has, cut, cutAll, grow, fill}
 use Rattle.wire.specs.Refusal.{numberTooLow, tableFull}
 use Rattle.gaps.specs.Channel.{Channel, Event, tick, heartbeat, Said, new, late, duplicate, heard, announced, taken, tooLow, judged, natural}
-use Rattle.gaps.specs.Built.{packed}
 use Rattle.gaps.proofs.Numbers.{larger-is}
-use Rattle.gaps.proofs.Pack.{packed-fits}
-use Rattle.gaps.proofs.Cut.{cut-low, cut-high}
+use Rattle.gaps.proofs.Cut.{cut-low, cut-high, cut-whole, cut-front, cut-back, cut-mid}
 use Rattle.gaps.proofs.Sets.{Canon, canon-yes}
 use Rattle.gaps.proofs.Exact.{ticked-new, ticked-late, ticked-again}
 use Rattle.gaps.proofs.Alone.{judged-low}
@@ -33,16 +30,18 @@ use Rattle.tracker.specs.declared.Verdict.{Verdict}
 use Rattle.tracker.specs.declared.Judged.{Judged}
 use Rattle.tracker.specs.declared.Judged.the-variants.{Refused, At}
 use Rattle.tracker.specs.Rules.{wellFormed}
-use Rattle.tracker.specs.Arrived.{on, place, settled, arrived}
+use Rattle.tracker.specs.Arrived.{Outcome, on, place, settled, arrived, answered}
 use Rattle.rows.specs.declared.Held.{Held}
-use Rattle.rows.specs.declared.Held.the-variants.{No, AtEnd, Within}
-use Rattle.tracker.specs.Inside.{Judges, stored}
-use Rattle.tracker.proofs.Told.{Room, Finds, finds-no, finds-end, finds-within}
+use Rattle.rows.specs.declared.Held.the-variants.{No, AtEnd, Alone, Inside}
+use Rattle.rows.specs.Held.{leftAt}
+use Rattle.tracker.specs.Inside.{made, Kept, Judges, stored}
+use Rattle.tracker.proofs.Told.{Room, Finds, finds-no, finds-run}
 use Rattle.tracker.proofs.Row.{span-length, span-at}
 use Rattle.tracker.proofs.Hold.{held-at}
 use Rattle.tracker.proofs.Signed.{natural-one, natural-pos}
 use Rattle.tracker.proofs.Seated.{well-row, arrived-10, arrived-7, arrived-at, seatIn, seat-sound, seat-place}
 use Rattle.tracker.proofs.Put.{RowOf, mended, mark-same, put-pushed, put-set, put-runs, put-same, kept-within}
+use Rattle.tracker.proofs.Shift.{shut, cleft, parts-length, put-shut, put-cleft}
 
 -- the tracker with another run at one place
 abbrev pub replaced : Tracker → ℕ → ℕ → ℕ → Tracker
@@ -222,79 +221,103 @@ module _ (t : Tracker) (i n j : ℕ) (x : Run) (w : RowOf t i) (m : j < getD (t 
         set-getD (t .counts) i 0,
       )
 
--- ---- a number that leaves its run through the builder
+-- ---- a late number that goes with its run, or splits it
 
-full-is : (l : List Run) (b : Runs) → b ≡ packed l → b .full ≡ ltb 32 (length l)
-unfolding packed
-full-is l b q = ap (λ (x : Runs). x .full) q
+module _ (t : Tracker) (i n j : ℕ) (w : RowOf t i) (a : i < 8) (m : j < getD (t .counts) i 0)
+    (f : getD (t .first) (i * 32 + j) 0 ≤ n) (g : n ≤ getD (t .last) (i * 32 + j) 0) where
+  abbrev held : Run
+  held = run (getD (t .first) (i * 32 + j) 0) (getD (t .last) (i * 32 + j) 0)
 
-module _ (t : Tracker) (i : ℕ) (a : Answer Said) (l : List Run) (b : Runs) (q : b ≡ packed l) where
-  pub built-full : (h : ℕ) (e : Bool) → b .full ≡ true → stored t i a h e l ≡ record { said = refused tableFull []; next = t }
-  built-full h e p = stored-full t i a h e l (ltb-true 32 (length l) (sym (full-is l b q) ∙ p))
+  cut-there : (xs : List Run) → cut held n ≡ xs → cutAll (channel t i .runs) n ≡ take j (channel t i .runs) ++ (xs ++ drop (suc j) (channel t i .runs))
+  cut-there xs k =
+      let l = channel t i .runs in
+      let s = span-length (t .first) (t .last) (i * 32) (getD (t .counts) i 0) in
+      let d = span-at (t .first) (t .last) (i * 32) (getD (t .counts) i 0) j m in
+      cut-at 1 (channel t i .highest) l j n (canon-yes 1 (channel t i .highest) l (w .order)) (rw s m) (rw d f) (rw d g) ∙ rw (d, k)
 
-  pub built-fits : getD (t .ended) i 0 ≤ 1 → (f k : List ℕ) → b .full ≡ false → f ≡ sets (t .first) (i * 32) (b .first) → k ≡ sets (t .last) (i * 32) (b .last) →
-      stored t i a (channel t i .highest) (channel t i .ended) l ≡
-      record {
-        said = a;
-        next = record {
-          count = t .count;
-          numbers = t .numbers;
-          highest = t .highest;
-          ended = t .ended;
-          counts = set (t .counts) i (b .count);
-          first = f;
-          last = k;
-        };
-      }
-  unfolding put
-  built-fits m f k p x y =
-      let n : length l ≤ 32 = ltb-false 32 (length l) (sym (full-is l b q) ∙ p) in
-      stored-fits t i a (channel t i .highest) (channel t i .ended) l n
-      ∙ rw (x, y, q, packed-fits l n, set-getD (t .highest) i 0, mark-same (t .ended) i m)
+  pub tick-shut : cut held n ≡ [] →
+      stored t i (accepted late) (channel t i .highest) (channel t i .ended) (cutAll (channel t i .runs) n) ≡ record { said = accepted late; next = shut t i (i * 32 + j) }
+  tick-shut k =
+      let l = take j (channel t i .runs) ++ drop (suc j) (channel t i .runs) in
+      let c : cutAll (channel t i .runs) n ≡ l = cut-there [] k in
+      rw (
+        c,
+        stored-fits t i (accepted late) (channel t i .highest) (channel t i .ended) l (rw (parts-length t i w a j m []) (omega (arith, w .room))),
+        put-shut t i w a j m (channel t i .highest) (channel t i .ended),
+        set-getD (t .highest) i 0,
+        mark-same (t .ended) i (w .mark),
+      )
+
+  module _ (k : cut held n ≡ run (getD (t .first) (i * 32 + j) 0) (n - 1) ∷ run (n + 1) (getD (t .last) (i * 32 + j) 0) ∷ []) where
+    abbrev both : List Run
+    both = run (getD (t .first) (i * 32 + j) 0) (n - 1) ∷ run (n + 1) (getD (t .last) (i * 32 + j) 0) ∷ []
+
+    abbrev parted : List Run
+    parted = take j (channel t i .runs) ++ (both ++ drop (suc j) (channel t i .runs))
+
+    pub tick-cleft : getD (t .counts) i 0 < 32 →
+        stored t i (accepted late) (channel t i .highest) (channel t i .ended) (cutAll (channel t i .runs) n) ≡ record { said = accepted late; next = cleft t i (i * 32 + j) n }
+    tick-cleft h =
+        rw (
+          cut-there both k,
+          stored-fits t i (accepted late) (channel t i .highest) (channel t i .ended) parted (rw (parts-length t i w a j m both) (omega arith)),
+          put-cleft t i w a j m n h (channel t i .highest) (channel t i .ended),
+          set-getD (t .highest) i 0,
+          mark-same (t .ended) i (w .mark),
+        )
+
+    pub tick-full : getD (t .counts) i 0 ≡ 32 →
+        stored t i (accepted late) (channel t i .highest) (channel t i .ended) (cutAll (channel t i .runs) n) ≡ record { said = refused tableFull []; next = t }
+    tick-full h =
+        rw (cut-there both k) (stored-full t i (accepted late) (channel t i .highest) (channel t i .ended) parted (rw (parts-length t i w a j m both) (omega arith)))
 
 -- ---- a number that is not above the highest, by what the search found
 
-module _ (t : Tracker) (i n : ℕ) (w : RowOf t i) (p : 1 ≤ n) (h : n ≤ getD (t .highest) i 0) (s : Held)
-    (q : Finds (t .first) (t .last) (i * 32) (getD (t .counts) i 0) n s) where
-  pub behind-no : s ≡ No → settled t i (judged (channel t i) (tick (pos n))) ≡ record { said = accepted duplicate; next = t }
-  behind-no e = go s q e
-    where
-      go : (s : Held) → Finds (t .first) (t .last) (i * 32) (getD (t .counts) i 0) n s → s ≡ No → settled t i (judged (channel t i) (tick (pos n))) ≡ record { said = accepted duplicate; next = t }
-      go s (finds-no a) e = tick-again t i w n p h a
-      go s (finds-end j x m a b c) e = absurd (let z : _≡_ {A = ℕ} 0 1 = cc in omega arith)
-      go s (finds-within a) e = absurd (let z : _≡_ {A = ℕ} 0 1 = cc in omega arith)
+-- what a tick of n is answered, and the next tracker
+abbrev Gives : Tracker → ℕ → ℕ → Answer Said → Tracker → Type 0
+Gives t i n v u = settled t i (judged (channel t i) (tick (pos n))) ≡ record { said = v; next = u }
 
-  pub behind-within : s ≡ Within → settled t i (judged (channel t i) (tick (pos n))) ≡
-      stored t i (accepted late) (channel t i .highest) (channel t i .ended) (cutAll (channel t i .runs) n)
-  behind-within e = go s q e
-    where
-      go : (s : Held) → Finds (t .first) (t .last) (i * 32) (getD (t .counts) i 0) n s → s ≡ Within → settled t i (judged (channel t i) (tick (pos n))) ≡
-          stored t i (accepted late) (channel t i .highest) (channel t i .ended) (cutAll (channel t i .runs) n)
-      go s (finds-no a) e = absurd (let z : _≡_ {A = ℕ} 0 1 = cc in omega arith)
-      go s (finds-end j x m a b c) e = absurd (let z : _≡_ {A = ℕ} 0 1 = cc in omega arith)
-      go s (finds-within a) e = tick-late t i w n p h a
+-- the places are the row's
+abbrev pub Behind : Tracker → ℕ → ℕ → Held → Type 0
+Behind t i n No = Gives t i n (accepted duplicate) t
+Behind t i n (AtEnd p first last) = (p < i * 32 + 32) × Gives t i n (accepted late) (replaced t p first last)
+Behind t i n (Alone p) = (1 ≤ getD (t .counts) i 0) × Gives t i n (accepted late) (shut t i p)
+Behind t i n (Inside p) =
+    (p < i * 32 + 32) × (getD (t .counts) i 0 < 32 → Gives t i n (accepted late) (cleft t i p n)) × (getD (t .counts) i 0 ≡ 32 → Gives t i n (refused tableFull []) t)
 
-  -- the place is the row's, and the two numbers there change
-  pub behind-end : (at first last : ℕ) → s ≡ AtEnd at first last → (at < i * 32 + 32) × (settled t i (judged (channel t i) (tick (pos n))) ≡
-      record { said = accepted late; next = replaced t at first last })
-  behind-end at first last e = go s q e
-    where
-      Left : ℕ → ℕ → ℕ → Type 0
-      Left at first last = (at < i * 32 + 32) × (settled t i (judged (channel t i) (tick (pos n))) ≡
-          record { said = accepted late; next = replaced t at first last })
+pub behind : (t : Tracker) (i n : ℕ) → RowOf t i → i < 8 → 1 ≤ n → n ≤ getD (t .highest) i 0 → (s : Held) →
+    Finds (t .first) (t .last) (i * 32) (getD (t .counts) i 0) n s → Behind t i n s
+unfolding leftAt
+behind t i n w a p h s (finds-no e) = tick-again t i w n p h e
+behind t i n w a p h s (finds-run j m f g) =
+    go (ltb n (r .first)) refl (eqb n (r .first)) refl (ltb n (r .last)) refl (eqb n (r .last)) refl
+  where
+    r : Run
+    r = run (getD (t .first) (i * 32 + j) 0) (getD (t .last) (i * 32 + j) 0)
 
-      go : (s : Held) → Finds (t .first) (t .last) (i * 32) (getD (t .counts) i 0) n s → s ≡ AtEnd at first last → Left at first last
-      go s (finds-no a) e = absurd (let z : _≡_ {A = ℕ} 0 1 = cc in omega arith)
-      go s (finds-end j x m a b c) e =
-          let k : i * 32 + j ≡ at = cc in
-          let f : x .first ≡ first = cc in
-          let l : x .last ≡ last = cc in
-          let y : Left (i * 32 + j) (x .first) (x .last) = (
-            omega (arith, w .room),
-            tick-late t i w n p h (held-at (t .first) (t .last) (i * 32) (getD (t .counts) i 0) j n m a b) ∙ tick-end t i n j x w m a b c,
-          ) in
-          rw (k, f, l) at y
-      go s (finds-within a) e = absurd (let z : _≡_ {A = ℕ} 0 1 = cc in omega arith)
+    late-by : {o : Outcome} → stored t i (accepted late) (channel t i .highest) (channel t i .ended) (cutAll (channel t i .runs) n) ≡ o → settled t i (judged (channel t i) (tick (pos n))) ≡ o
+    late-by e = tick-late t i w n p h (held-at (t .first) (t .last) (i * 32) (getD (t .counts) i 0) j n m f g) ∙ e
+
+    in-row : i * 32 + j < i * 32 + 32
+    in-row = omega (arith, w .room)
+
+    go : (x : Bool) → ltb n (r .first) ≡ x → (y : Bool) → eqb n (r .first) ≡ y → (z : Bool) → ltb n (r .last) ≡ z → (v : Bool) → eqb n (r .last) ≡ v →
+        Behind t i n (cond x No (cond y (cond z (AtEnd (i * 32 + j) (n + 1) (r .last)) (Alone (i * 32 + j))) (cond v (AtEnd (i * 32 + j) (r .first) (n - 1)) (Inside (i * 32 + j)))))
+    go true b y c z d v e = absurd (omega (arith, ltb-true n (r .first) b))
+    go false b true c true d v e = (in-row, late-by (tick-end t i n j (run (n + 1) (r .last)) w m f g (cut-front r n (eqb-true n (r .first) c) (ltb-true n (r .last) d))))
+    go false b true c false d v e = (omega arith, late-by (tick-shut t i n j w a m f g (cut-whole r n (eqb-true n (r .first) c) (omega (arith, ltb-false n (r .last) d)))))
+    go false b false c z d true e = (in-row, late-by (tick-end t i n j (run (r .first) (n - 1)) w m f g (cut-back r n (omega (arith, eqb-false n (r .first) c)) (eqb-true n (r .last) e))))
+    go false b false c z d false e =
+        let k = cut-mid r n (omega (arith, eqb-false n (r .first) c)) (omega (arith, eqb-false n (r .last) e)) in
+        (in-row, (λ q. late-by (tick-cleft t i n j w a m f g k q)), λ q. late-by (tick-full t i n j w a m f g k q))
+
+-- what is left in lent arrays
+pub laid-as : (v : Verdict) (k : ℕ) (ns h e : List ℕ) {c c′ f f′ l l′ : List ℕ} → c ≡ c′ → f ≡ f′ → l ≡ l′ →
+    answered v (made k ns h e c f l) ≡ answered v (made k ns h e c′ f′ l′)
+laid-as v k ns h e p q r = λ m. answered v (made k ns h e (p m) (q m) (r m))
+
+pub told-behind : (t : Tracker) (i n : ℕ) (x s : Held) → Behind t i n s → s ≡ x → Behind t i n x
+told-behind t i n x s w e = rw e at w
 
 -- ---- an arrival's refusals by its channel's seat
 
@@ -326,6 +349,10 @@ module _ (t : Tracker) (k : ℕ) (low : Bool) where
   told-at i r w e = rw e at w
 
 -- ---- from a place to its judgement, for numbers as the code holds them
+
+-- whatever the count of channels and their numbers
+pub kept-named : (k m : ℕ) (ns ms h e c f l : List ℕ) (i : ℕ) → Kept (made k ns h e c f l) i → Kept (made m ms h e c f l) i
+kept-named k m ns ms h e c f l i w = record { place = w .place; mark = w .mark; row = w .row }
 
 module _ (t : Tracker) (k : ℕ) (low : Bool) (i : ℕ) (w : Judges t k low (At i)) where
   pub seat-row : RowOf t i

@@ -5,6 +5,7 @@ pub mod Told
 pub mod Hold
 pub mod Room
 pub mod Put
+pub mod Shift
 pub mod Seated
 pub mod Judge
 pub mod FirstRun

@@ -74,7 +74,7 @@ mended t i highest ended count p x =
       last = set (t .last) p (x .last);
     }
 
-abbrev record-of : ℕ → Bool → List Run → Channel
+abbrev pub record-of : ℕ → Bool → List Run → Channel
 record-of h e l = record { highest = h; ended = e; runs = l }
 
 put-one : (t : Tracker) (i h : ℕ) (e : Bool) (l : List Run) (j : ℕ) (x : Run) → j < 32 →
@@ -84,7 +84,7 @@ put-one : (t : Tracker) (i h : ℕ) (e : Bool) (l : List Run) (j : ℕ) (x : Run
 unfolding put
 put-one t i h e l j x m p q = rw (p, q, sets-set (t .first) (i * 32) 32 j (x .first) m, sets-set (t .last) (i * 32) 32 j (x .last) m)
 
-zeros-later : (f : List ℕ) (b k m : ℕ) → m ≤ k → cells f b k ≡ replicate k 0 → cells f (b + m) (k - m) ≡ replicate (k - m) 0
+pub zeros-later : (f : List ℕ) (b k m : ℕ) → m ≤ k → cells f b k ≡ replicate k 0 → cells f (b + m) (k - m) ≡ replicate (k - m) 0
 zeros-later f b k zero h z = let e : b + 0 ≡ b = omega arith in let d : k - 0 ≡ k = omega arith in rw (e, d) z
 zeros-later f b zero (suc m) h z = absurd (omega arith)
 zeros-later f b (suc k) (suc m) h z =

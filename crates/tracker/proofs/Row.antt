@@ -36,7 +36,7 @@ pub sets-same : (f : List ℕ) (b n : ℕ) → sets f b (cells f b n) ≡ f
 sets-same f b zero = refl
 sets-same f b (suc n) = ap (λ (x : List ℕ). sets x (suc b) (cells f (suc b) n)) (set-getD f b 0) ∙ sets-same f (suc b) n
 
-cells-before : (f : List ℕ) (a v b n : ℕ) → a < b → cells (set f a v) b n ≡ cells f b n
+pub cells-before : (f : List ℕ) (a v b n : ℕ) → a < b → cells (set f a v) b n ≡ cells f b n
 cells-before f a v b zero h = refl
 cells-before f a v b (suc n) h = rw (getD-set-other f a b v 0 (λ e. omega (arith, e)), cells-before f a v (suc b) n (omega arith))
 

@@ -6,19 +6,19 @@ use mathlib.Core.List.{List, [], _∷_, _++_}
 use mathlib.Core.Bool.{true, false}
 use lib.ListN.{length, take, getD}
 use Rattle.gaps.specs.declared.Run.{Run}
-use Rattle.gaps.specs.Gaps.{run, has, cut, grow}
+use Rattle.gaps.specs.Gaps.{run, has, grow}
 use Rattle.gaps.specs.Limits.{runLimit}
 use Rattle.rows.specs.declared.Gap.{Gap}
 use Rattle.rows.specs.declared.Held.{Held}
-use Rattle.rows.specs.declared.Held.the-variants.{No, AtEnd, Within}
+use Rattle.rows.specs.declared.Held.the-variants.{No}
+use Rattle.rows.specs.Held.{leftAt}
 use Rattle.seats.specs.Places.{span}
 
--- no run holds n; or the run at place j does, and is left as one other run; or a run does
+-- no run holds n; or the run at place j does, and this is what is left of it
 pub data Finds (f l : List ℕ) (b count n : ℕ) : Held → Type 0 where
   finds-no : has (span f l b count) n ≡ false → Finds f l b count n No
-  finds-end : (j : ℕ) (x : Run) → j < count → getD f (b + j) 0 ≤ n → n ≤ getD l (b + j) 0 →
-      cut (run (getD f (b + j) 0) (getD l (b + j) 0)) n ≡ x ∷ [] → Finds f l b count n (AtEnd (b + j) (x .first) (x .last))
-  finds-within : has (span f l b count) n ≡ true → Finds f l b count n Within
+  finds-run : (j : ℕ) → j < count → getD f (b + j) 0 ≤ n → n ≤ getD l (b + j) 0 →
+      Finds f l b count n (leftAt (b + j) (run (getD f (b + j) 0) (getD l (b + j) 0)) n)
 
 -- where the numbers behind the highest h go: a place of the row, and the first number of the run there
 pub record Room (f l : List ℕ) (b held h : ℕ) (g : Gap) : Type 0 where

@@ -57,6 +57,10 @@ saidOf BelowRange = refused numberTooLow []
 saidOf Full = refused tableFull []
 saidOf Malformed = refused malformed []
 
--- what a reply says on paper: the answer, and the next tracker
+-- what an answer says on paper, with the next tracker
+abbrev pub answered : Verdict → Tracker → Outcome
+answered v t = record { said = saidOf v; next = t }
+
+-- what a reply says on paper
 abbrev pub paper : Reply → Outcome
-paper r = record { said = saidOf (r .verdict); next = r .next }
+paper r = answered (r .verdict) (r .next)

@@ -9,16 +9,18 @@ use Rattle.wire.specs.Answer.{Answer, accepted, refused}
 use Rattle.gaps.specs.declared.Run.{Run}
 use Rattle.wire.specs.Refusal.{noSuchChannel, tableFull, malformed}
 use Rattle.gaps.specs.Limits.{runLimit}
+use Rattle.gaps.specs.Gaps.{grow}
 use Rattle.gaps.specs.Channel.{Event, Said, tooLow, judged}
 use Rattle.tracker.specs.declared.Tracker.{Tracker}
 use Rattle.tracker.specs.declared.Wanted.{Wanted}
 use Rattle.tracker.specs.declared.Wanted.the-variants as wanted
+use Rattle.tracker.specs.declared.Verdict.{Verdict}
 use Rattle.tracker.specs.declared.Judged.{Judged}
 use Rattle.tracker.specs.declared.Judged.the-variants.{Refused, At}
 use Rattle.seats.specs.Places.{channelLimit}
 use Rattle.tracker.specs.Places.{channel, put}
 use Rattle.seats.specs.Rules.{soundRow}
-use Rattle.tracker.specs.Arrived.{Outcome, on, settled, arrived, saidOf}
+use Rattle.tracker.specs.Arrived.{Outcome, on, settled, arrived, saidOf, answered}
 use Rattle.tracker.specs.FirstRun.{Lost, lost, nothingMissing}
 
 -- a tracker of these fields
@@ -58,3 +60,10 @@ lostOf (wanted.First r) = accepted (lost r)
 lostOf wanted.NothingMissing = accepted nothingMissing
 lostOf wanted.NotInTracker = refused noSuchChannel []
 lostOf wanted.Malformed = refused malformed []
+
+-- whatever the count of channels and their numbers: 9, or the record whose numbers behind the highest, up to m, are missing
+abbrev pub Raises : Verdict → (h e c f l h′ e′ c′ f′ l′ : List ℕ) → ℕ → Answer Said → ℕ → Bool → ℕ → Type 0
+Raises r h e c f l h′ e′ c′ f′ l′ i said top mark m =
+    (k : ℕ) (ns : List ℕ) →
+    answered r (made k ns h′ e′ c′ f′ l′) ≡
+    stored (made k ns h e c f l) i said top mark (grow (channel (made k ns h e c f l) i .runs) (channel (made k ns h e c f l) i .highest) m)

@@ -1,24 +1,19 @@
 // The gap record of up to eight channels: which numbers never came, in whatever order they came.
 ghost use mathlib.Core.Path.{_≡_};
-ghost use Rattle.gaps.specs.Gaps.{cutAll, grow};
 ghost use Rattle.gaps.specs.Channel.{tick, heartbeat};
-ghost use Rattle.tracker.specs.Places.{channel};
 ghost use Rattle.tracker.specs.SetUp.{blankWith, setUp, paper as begun};
-ghost use Rattle.tracker.specs.Arrived.{on, arrived, saidOf, paper};
+ghost use Rattle.tracker.specs.Arrived.{on, arrived, paper};
 ghost use Rattle.tracker.specs.Request.{answering, leaving, paper as requested};
-ghost use Rattle.tracker.specs.Inside.{Kept, stored};
-use crate::refused::judge;
 use gaps::Run;
 use gaps::Runs;
-use rows::Held;
-use rows::lay;
+pub use lent::heartbeat_in;
+pub use lent::tick_in;
+pub use request::request_in;
 use rows::padded;
-use rows::room;
-use rows::search;
-use rows::without;
 use seats::Seat;
 use seats::listed;
 
+mod lent;
 mod refused;
 mod request;
 mod signs;
@@ -132,94 +127,75 @@ impl Tracker {
     }
 
     // A tick on a channel: its answer, and the next tracker.
-    pub fn tick(mut self, channel: u16, number: i64) -> Reply
+    pub fn tick(self, channel: u16, number: i64) -> Reply
         ensures { λ r. ⌜ paper r ≡ arrived self (on channel (tick number)) ⌝ }
     {
-        let n = signs::natural(number);
-        let judged = judge(
+        let count = self.count;
+        let numbers = self.numbers;
+        let mut highest = self.highest;
+        let mut ended = self.ended;
+        let mut counts = self.counts;
+        let mut first = self.first;
+        let mut last = self.last;
+        let verdict = lent::tick_in(
+            count,
+            &numbers,
+            &mut highest,
+            &mut ended,
+            &mut counts,
+            &mut first,
+            &mut last,
             channel,
-            n < 1,
-            self.count,
-            &self.numbers,
-            &self.highest,
-            &self.ended,
-            &self.counts,
-            &self.first,
-            &self.last,
+            number,
         );
-        match judged {
-            Judged::Refused(verdict) => Reply {
-                verdict: verdict,
-                next: self,
+        Reply {
+            verdict,
+            next: Tracker {
+                count,
+                numbers,
+                highest,
+                ended,
+                counts,
+                first,
+                last,
             },
-            Judged::At(at) => {
-                let highest = self.highest[at];
-                // The common path: the next number, and nothing else changes.
-                if highest == n - 1 {
-                    self.highest[at] = n;
-                    return Reply {
-                        verdict: Verdict::New,
-                        next: self,
-                    };
-                }
-                if highest < n {
-                    let ended = self.ended[at] == 1;
-                    return self.raise(at, n - 1, n, ended, Verdict::New);
-                }
-                let count = self.counts[at];
-                let held = search(&self.first, &self.last, at, count, n);
-                match held {
-                    Held::No => Reply {
-                        verdict: Verdict::Duplicate,
-                        next: self,
-                    },
-                    Held::AtEnd(p, first, last) => {
-                        self.first[p] = first;
-                        self.last[p] = last;
-                        return Reply {
-                            verdict: Verdict::Late,
-                            next: self,
-                        };
-                    }
-                    Held::Within => self.cut(at, n),
-                }
-            }
         }
     }
 
     // A channel heartbeat: its answer, and the next tracker.
-    pub fn heartbeat(mut self, channel: u16, last: i64, end: bool) -> Reply
+    pub fn heartbeat(self, channel: u16, last: i64, end: bool) -> Reply
         ensures { λ r. ⌜ paper r ≡ arrived self (on channel (heartbeat last end)) ⌝ }
     {
-        let judged = judge(
+        let count = self.count;
+        let numbers = self.numbers;
+        let mut highest = self.highest;
+        let mut ended = self.ended;
+        let mut counts = self.counts;
+        let mut first = self.first;
+        let mut lasts = self.last;
+        let verdict = lent::heartbeat_in(
+            count,
+            &numbers,
+            &mut highest,
+            &mut ended,
+            &mut counts,
+            &mut first,
+            &mut lasts,
             channel,
-            signs::below(last, 0),
-            self.count,
-            &self.numbers,
-            &self.highest,
-            &self.ended,
-            &self.counts,
-            &self.first,
-            &self.last,
+            last,
+            end,
         );
-        match judged {
-            Judged::Refused(verdict) => Reply {
-                verdict: verdict,
-                next: self,
+        Reply {
+            verdict,
+            next: Tracker {
+                count,
+                numbers,
+                highest,
+                ended,
+                counts,
+                first,
+                last: lasts,
             },
-            Judged::At(at) => {
-                let m = signs::natural(last);
-                let highest = self.highest[at];
-                let ended = (self.ended[at] == 1) | end;
-                if highest < m {
-                    return self.raise(at, m, m, ended, Verdict::Heard);
-                }
-                self.ended[at] = signs::mark(ended);
-                Reply {
-                    verdict: Verdict::Heard,
-                    next: self,
-                }
-            }
         }
     }
 
@@ -228,8 +204,7 @@ impl Tracker {
         ensures { λ r. ⌜ requested r ≡ answering self channel (now (out .entry)) ⌝ }
         ensures { λ r. ⌜ now (out .exit) ≡ leaving self channel (now (out .entry)) ⌝ }
     {
-        let wanted = request::first_run(
-            channel,
+        request::request_in(
             self.count,
             &self.numbers,
             &self.highest,
@@ -237,63 +212,8 @@ impl Tracker {
             &self.counts,
             &self.first,
             &self.last,
-        );
-        match wanted {
-            Wanted::First(run) => request::ask(channel, run, out),
-            Wanted::NothingMissing => Requested::NothingMissing,
-            Wanted::NotInTracker => Requested::NotInTracker,
-            Wanted::Malformed => Requested::Malformed,
-        }
-    }
-
-    // All numbers behind the highest up to m become missing, under another highest and mark; or 9.
-    fn raise(mut self, at: usize, m: u64, highest: u64, ended: bool, verdict: Verdict) -> Reply
-        requires { ⌜ Kept self at ⌝ }
-        ensures { λ r. ⌜ paper r ≡ stored self at (saidOf verdict) highest ended (grow (channel self at .runs) (channel self at .highest) m) ⌝ }
-    {
-        let held = self.counts[at];
-        let before = self.highest[at];
-        let gap = room(&self.first, &self.last, at, held, before);
-        if gap.full {
-            return Reply {
-                verdict: Verdict::Full,
-                next: self,
-            };
-        }
-        let j = gap.at;
-        let p = at * Runs::LIMIT + j;
-        self.first[p] = gap.first;
-        self.last[p] = m;
-        self.counts[at] = j + 1;
-        self.highest[at] = highest;
-        self.ended[at] = signs::mark(ended);
-        Reply {
-            verdict: verdict,
-            next: self,
-        }
-    }
-
-    // The number leaves its run, which goes or splits, or 9.
-    fn cut(mut self, at: usize, n: u64) -> Reply
-        requires { ⌜ Kept self at ⌝ }
-        ensures { λ r. ⌜ paper r ≡ stored self at (saidOf Verdict.Late) (channel self at .highest) (channel self at .ended) (cutAll (channel self at .runs) n) ⌝ }
-    {
-        let held = self.counts[at];
-        let left = without(&self.first, &self.last, at, held, n);
-        if left.full {
-            return Reply {
-                verdict: Verdict::Full,
-                next: self,
-            };
-        }
-        let first = left.first;
-        let last = left.last;
-        self.counts[at] = left.count;
-        lay(&mut self.first, at, first);
-        lay(&mut self.last, at, last);
-        Reply {
-            verdict: Verdict::Late,
-            next: self,
-        }
+            channel,
+            out,
+        )
     }
 }

@@ -7,7 +7,7 @@ ghost use Rattle.record.specs.Paper.{paperRecord};
 ghost use Rattle.record.specs.declared.Record.the-variants as variant;
 ghost use Rattle.tracker.specs.FirstRun.{lost, firstRun};
 ghost use Rattle.tracker.specs.Inside.{made, lostOf};
-ghost use Rattle.tracker.specs.Request.{asked, resendOf, fitting, answerOf, outputOf, paper};
+ghost use Rattle.tracker.specs.Request.{asked, resendOf, fitting, answerOf, outputOf, answering, leaving, paper};
 use crate::Requested;
 use crate::Tracker;
 use crate::Wanted;
@@ -18,7 +18,7 @@ use seats::seat_of;
 use writer::Written;
 
 // 10, then 7; or the first run of the channel, where it has one, in a tracker of these fields.
-pub(crate) fn first_run<'a>(
+fn first_run<'a>(
     channel: u16,
     count: usize,
     numbers: &'a [u16; Tracker::CHANNELS],
@@ -46,6 +46,30 @@ pub(crate) fn first_run<'a>(
         first: first[b],
         last: last[b],
     })
+}
+
+// Writes the frame that asks for the first run of a channel, in a tracker of these fields; a refused or empty request leaves every byte as it stood.
+pub fn request_in<'a>(
+    count: usize,
+    numbers: &'a [u16; Tracker::CHANNELS],
+    highest: &'a [u64; Tracker::CHANNELS],
+    ended: &'a [u8; Tracker::CHANNELS],
+    counts: &'a [usize; Tracker::CHANNELS],
+    first: &'a [u64; Tracker::PLACES],
+    last: &'a [u64; Tracker::PLACES],
+    channel: u16,
+    out: &mut [u8],
+) -> Requested
+    ensures { λ r. ⌜ paper r ≡ answering (made count (now (numbers .entry)) (now (highest .entry)) (now (ended .entry)) (now (counts .entry)) (now (first .entry)) (now (last .entry))) channel (now (out .entry)) ⌝ }
+    ensures { λ r. ⌜ now (out .exit) ≡ leaving (made count (now (numbers .entry)) (now (highest .entry)) (now (ended .entry)) (now (counts .entry)) (now (first .entry)) (now (last .entry))) channel (now (out .entry)) ⌝ }
+{
+    let wanted = first_run(channel, count, numbers, highest, ended, counts, first, last);
+    match wanted {
+        Wanted::First(run) => ask(channel, run, out),
+        Wanted::NothingMissing => Requested::NothingMissing,
+        Wanted::NotInTracker => Requested::NotInTracker,
+        Wanted::Malformed => Requested::Malformed,
+    }
 }
 
 // The numbers of a run that one request asks for.
@@ -77,7 +101,7 @@ fn resend(channel: u16, run: Run) -> Resend
 }
 
 // Writes the frame that asks for the numbers of a run, where the output has room for it.
-pub(crate) fn ask(channel: u16, run: Run, out: &mut [u8]) -> Requested
+fn ask(channel: u16, run: Run, out: &mut [u8]) -> Requested
     requires { ⌜ (run .first ≤ run .last) × (run .last ≤ mostNumber) ⌝ }
     ensures { λ r. ⌜ paper r ≡ answerOf (fitting (length (now (out .entry))) (lost run)) ⌝ }
     ensures { λ r. ⌜ now (out .exit) ≡ outputOf (fitting (length (now (out .entry))) (lost run)) channel (now (out .entry)) ⌝ }

@@ -1,21 +1,11 @@
+use mir.Facts.{toZ-ofZ}
 use borrow.Author.Needs.{needs}
-use Rattle.gaps.specs.Channel.{tick}
-use Rattle.board.specs.Arrivals.{heldIn}
 use Rattle.board.proofs.Lent.{lent}
 use Rattle.board.proofs.arrivals.orizhgum_tick_in.Statement.{statement}
 use Rattle.board.proofs.arrivals.orizhgum_tick_in.Tie as tie
 
 returns : tie.Need-returns
-returns c =
-    let s = c .before .before .before .before .before .before .before .before .before .before .before .before .before .before .before in
-    let a = s .args in
-    let l = c .before .lay .ensures in
-    lent (heldIn (a .count) (a .numbers .now) (a .highest .now) (a .ended .now) (a .counts .now) (a .first .now) (a .last .now))
-    (a .channel) tick (a .number) (s .fits .number)
-    (c .before .before .before .before .before .before .before .before .before .held .ensures)
-    (c .before .before .before .before .before .before .before .before .tick .ensures)
-    (c .verdict-number .ensures) (l .0) (l .1 .0) (l .1 .1 .0) (l .1 .1 .1 .0) (l .1 .1 .1 .1)
+returns c = lent (c .before .tick-in .result) _ (c .verdict-number .ensures) (rw (toZ-ofZ (c .before .before .before .before .before .before .before .fits .number)) at (c .before .tick-in .ensures))
 
 pub orizhgum-tick-in-spec : {M : Type 1} → statement M
-orizhgum-tick-in-spec =
-    tie.close (tie.spec (λ c κs. search needs) (λ c κs. search needs) (λ c κs. search needs) (λ c κs. search needs) returns)
+orizhgum-tick-in-spec = tie.close (tie.spec (λ c κs. search needs) (λ c κs. search needs) returns)

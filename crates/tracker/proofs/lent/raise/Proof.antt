@@ -1,0 +1,63 @@
+use native.Mathlib.Omega.{arith}
+use mathlib.Core.List.{[]}
+use mathlib.Core.Path.{sym}
+use lib.ListN.{getD}
+use Rattle.gaps.specs.Gaps.{grow}
+use Rattle.tracker.specs.Places.{channel}
+use Rattle.tracker.specs.Arrived.{saidOf}
+use Rattle.tracker.specs.Inside.{made}
+use Rattle.tracker.proofs.Room.{room-grows}
+use Rattle.tracker.proofs.Put.{kept-within}
+use Rattle.tracker.proofs.Judge.{stored-full, raised}
+use borrow.Author.Needs.{needs}
+use Rattle.tracker.proofs.lent.raise.Statement.{statement}
+use Rattle.tracker.proofs.lent.raise.Tie as tie
+
+returns : tie.Need-returns
+returns c =
+    let k = c .before .before .before .before .before .before in
+    let s = k .args in
+    let t = made 0 [] (s .highest .now) (s .ended .now) (s .counts .now) (s .first .now) (s .last .now) in
+    let w = kept-within t (s .at) (k .pre) in
+    let g = room-grows (s .first .now) (s .last .now) (s .at) (getD (s .counts .now) (s .at) 0) (getD (s .highest .now) (s .at) 0) (k .pre .place) (w .room) (w .high) (c .before .room .result) (c .before .room .ensures) in
+    λ m ns. (let u = made m ns (s .highest .now) (s .ended .now) (s .counts .now) (s .first .now) (s .last .now) in
+    sym (stored-full u (s .at) (saidOf (s .verdict)) (s .top) (s .mark) (grow (channel u (s .at) .runs) (channel u (s .at) .highest) (s .m)) (g .over (c .if1 .taken) (s .m))))
+
+element-write-first : tie.Need-element-write-first
+element-write-first c =
+    let k = c .before .before .before .before .before .before in
+    let s = k .args in
+    let t = made 0 [] (s .highest .now) (s .ended .now) (s .counts .now) (s .first .now) (s .last .now) in
+    let w = kept-within t (s .at) (k .pre) in
+    let g = room-grows (s .first .now) (s .last .now) (s .at) (getD (s .counts .now) (s .at) 0) (getD (s .highest .now) (s .at) 0) (k .pre .place) (w .room) (w .high) (c .before .room .result) (c .before .room .ensures) in
+    omega (arith, g .room (c .if1 .left) .within, k .pre .place)
+
+add-p : tie.Need-add-p
+add-p c = omega (arith, element-write-first c)
+
+mul-first : tie.Need-mul-first
+mul-first c = omega (arith, element-write-first c)
+
+mul-last : tie.Need-mul-last
+mul-last c = omega (arith, element-write-first c)
+
+element-write-last : tie.Need-element-write-last
+element-write-last c = element-write-first c
+
+add-counts : tie.Need-add-counts
+add-counts c = omega (arith, element-write-first c)
+
+returns-2 : tie.Need-returns-2
+returns-2 c =
+    let k = c .before .before .before .before .before .before .before in
+    let s = k .args in
+    let t = made 0 [] (s .highest .now) (s .ended .now) (s .counts .now) (s .first .now) (s .last .now) in
+    let w = kept-within t (s .at) (k .pre) in
+    let g = room-grows (s .first .now) (s .last .now) (s .at) (getD (s .counts .now) (s .at) 0) (getD (s .highest .now) (s .at) 0) (k .pre .place) (w .room) (w .high) (c .before .before .room .result) (c .before .before .room .ensures) in
+    λ m ns. (let u = made m ns (s .highest .now) (s .ended .now) (s .counts .now) (s .first .now) (s .last .now) in
+    rw (c .mark .ensures) (sym (raised u (s .at) w (saidOf (s .verdict)) (s .top) (s .mark) (s .m) (c .before .before .room .result) (g .room (c .before .if1 .left)))))
+
+pub raise-spec : {M : Type 1} → statement M
+raise-spec =
+    tie.close (tie.spec (λ c. search needs) (λ c. search needs) (λ c. search needs) (λ c. search needs) (λ c κs. search needs) returns (λ c. search needs) add-p mul-first element-write-first mul-last
+    element-write-last add-counts (λ c. search needs) (λ c. search needs) (λ c. search needs) (λ c. search needs) (λ c κs. search needs) (λ c. search needs) returns-2)
