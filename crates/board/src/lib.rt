@@ -5,11 +5,11 @@ ghost use Rattle.board.specs.Board.{frameAnswer};
 use frame::Framed;
 
 mod answers;
-mod arrivals;
+pub mod arrivals;
 mod entry;
 mod groups;
-mod records;
-mod requested;
+pub mod records;
+pub mod requested;
 mod written;
 
 // The frame that some bytes begin with: its type, the body's length and the length of the frame; zeros where it is refused.

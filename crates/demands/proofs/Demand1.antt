@@ -42,7 +42,8 @@ use Rattle.tracker.specs.Request as request
 use Rattle.tracker.specs.Request.{requestLength, fitting, answerOf}
 use Rattle.tracker.proofs.Fitting.{request-length}
 use Rattle.demands.specs.Play.{recordOf}
-use Rattle.demands.specs.Rules.{_if_, Judged, success, later, OrNone, Kept, Every}
+use Rattle.demands.proofs.Calls.{frame-read-as, read-frame-as, read-as, judge-as, group-of-as, entry-of-as, quantity-of-as, step-as, write-as, set-up-as, arrives-as, request-as}
+use Rattle.demands.specs.Rules.{_if_, Judged, success, later, OrNone, Kept}
 use Rattle.demands.specs.Conditions.{L, behindOf, fieldsEnd, groupsIn, entriesIn, shownIn, leftIn, groupCount, entryCount, shownCount, entriesLeft, EntryLacks, EntryStrays, Falls, Keeps, NotIn, Low}
 use Rattle.demands.specs.Demand1.{frameRules, bodyRules, readerRules, stepRules, writerRules, setUpRules, arrivalRules, requestRules, Demand1}
 use Rattle.demands.proofs.Rules.{above, answered, tested, Alike, both-accepted, both-refused, alike, in-turn, by-reading, by-body, by-judging}
@@ -70,7 +71,7 @@ unfolding record-of.readAs
 read-alike (listed m) type b = once-alike (judgedAs (listed m) b) _ _
 read-alike unlisted type b = both-accepted
 
-by-type : (type : ℕ) (b : List ℕ) → Judged (bodyRules type b) (reading type b .answer)
+pub by-type : (type : ℕ) (b : List ℕ) → Judged (bodyRules type b) (reading type b .answer)
 unfolding reading
 by-type type b = alike (read-alike (named type) type b) (by-body (named type) b)
 
@@ -468,25 +469,25 @@ module _ (t : Tracker) (k : ℕ) (out : List ℕ) where
 -- ---- the demand
 
 -- what holds of a definition holds of every answer that meets it
-every : {R A : Type 0} (paper : R → A) (definition : A) (says : A → Type 1) → says definition → Every paper definition says
-every paper definition says h r e = subst says (sym e) h
+every : {A : Type 0} {definition answer : A} (says : A → Type 1) → answer ≡ definition → says definition → says answer
+every says e h = subst says (sym e) h
 
 pub demand1 : Demand1
 demand1 =
     record {
-      frame-read = λ s r e. rw e (by-frame s);
-      read-frame = λ s. every _ _ (λ (a : Told record-of.Reading). Judged (readerRules s) (a .answer)) (by-bytes s);
-      read = λ type b. every _ _ (λ (a : Told record-of.Reading). Judged (bodyRules type b) (a .answer)) (by-type type b);
-      judge = λ type b r e. rw e (by-body (named type) b);
-      group-of = λ type b i. every _ _ (λ (a : Told (Asked (List ℤ))). OrNone (bodyRules type b) noSuchEntry (groupCount type b ≤ i) (a .answer)) (group-asked type b i);
-      entry-of = λ type b i r e. rw e (entry-asked type b i);
-      quantity-of = λ type b i j r e. rw e (quantity-asked type b i j);
-      step = λ type b c r e. rw e (stepped type b (paperCursor c));
-      write = λ x ts gs out r e. rw e (written (paperRecord x) ts gs out);
-      set-up = λ numbers. every _ _ (λ (a : Ready). Kept (setUpRules numbers) (a .said) (blankOf []) (a .tracker)) (started numbers);
+      frame-read = λ s r c. rw (frame-read-as c) (by-frame s);
+      read-frame = λ s r c. every (λ (a : Told record-of.Reading). Judged (readerRules s) (a .answer)) (read-frame-as c) (by-bytes s);
+      read = λ type b r c. every (λ (a : Told record-of.Reading). Judged (bodyRules type b) (a .answer)) (read-as c) (by-type type b);
+      judge = λ type b r c. rw (judge-as c) (by-body (named type) b);
+      group-of = λ type b i r c. every (λ (a : Told (Asked (List ℤ))). OrNone (bodyRules type b) noSuchEntry (groupCount type b ≤ i) (a .answer)) (group-of-as c) (group-asked type b i);
+      entry-of = λ type b i r c. rw (entry-of-as c) (entry-asked type b i);
+      quantity-of = λ type b i j r c. rw (quantity-of-as c) (quantity-asked type b i j);
+      step = λ type b c r e. rw (step-as e) (stepped type b (paperCursor c));
+      write = λ x ts gs out after r c. rw (write-as c .answers, write-as c .leaves) (written (paperRecord x) ts gs out);
+      set-up = λ numbers r c. every (λ (a : Ready). Kept (setUpRules numbers) (a .said) (blankOf []) (a .tracker)) (set-up-as c) (started numbers);
       zero-breaks = λ k. omega (arith, k .one);
-      arrival = λ t k e. every _ _ (λ (a : Outcome). Kept (arrivalRules t k e) (a .said) t (a .next)) (arrives t k e);
-      request = λ t k out r e. rw e (asked t k out);
-      none-missing = λ t k out r e. rw e (asked-or-none t k out);
-      none-written = nothing-written;
+      arrival = λ t k e r c. every (λ (a : Outcome). Kept (arrivalRules t k e) (a .said) t (a .next)) (arrives-as c) (arrives t k e);
+      request = λ t k out after r c. rw (request-as c .answers, request-as c .leaves) (asked t k out);
+      none-missing = λ t k out after r c. rw (request-as c .answers) (asked-or-none t k out);
+      none-written = λ t k out after r c e. request-as c .leaves ∙ nothing-written t k out (sym (request-as c .answers) ∙ e);
     }

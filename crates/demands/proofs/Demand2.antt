@@ -24,6 +24,7 @@ use Rattle.bodies.proofs.Bodies.{exactly}
 use Rattle.writer.proofs.Judging.{known-of}
 use Rattle.bodies.proofs.Round.{length-encode}
 use Rattle.demands.specs.Demand2.{Reader, Holds, frame-first, as-it-stood, Writer, Output, Held, Reads, ReadsBack, SameBytes}
+use Rattle.demands.proofs.Calls.{read-frame-as, write-as}
 use Rattle.demands.proofs.Rules.{accepted-where}
 use Rattle.demands.proofs.Demand1.{demand1}
 use Rattle.demands.proofs.Back.{back-known, judged-again, bytes-again}
@@ -34,7 +35,7 @@ pub reader : Reader
 reader s x e = accepted-where (demand1 .read-frame s x e)
 
 pub writer : Writer
-writer r ts gs out after a c = accepted-where (demand1 .write r ts gs out a (c .answers) .judged)
+writer r ts gs out after a c = accepted-where (demand1 .write r ts gs out after a c .judged)
 
 -- ---- the output
 length-frame : (t : ℕ) (b : List ℕ) → length (frameOf t b) ≡ 12 + length b
@@ -61,7 +62,7 @@ holds-by x ts gs out (refused n vs) e = as-it-stood
 pub output : Output
 unfolding answering leaving
 output r ts gs out after a c =
-    rw (c .answers, c .leaves) (holds-by (paperRecord r) ts gs out (judging (paperRecord r) ts gs (length out)) refl)
+    rw (write-as c .answers, write-as c .leaves) (holds-by (paperRecord r) ts gs out (judging (paperRecord r) ts gs (length out)) refl)
 
 -- ---- what is written reads back
 
@@ -73,7 +74,7 @@ back-by (unknown type) h ts gs out n e = let z : _≡_ {A = ℕ} 0 1 = cc in abs
 pub reads-back : ReadsBack
 unfolding answering
 reads-back r ts gs out after a n h c e =
-    rw (c .leaves) (back-by (paperRecord r) h ts gs out n (sym (c .answers) ∙ e))
+    rw (write-as c .leaves) (back-by (paperRecord r) h ts gs out n (sym (write-as c .answers) ∙ e))
 
 -- ---- what is read and written again
 
@@ -108,12 +109,12 @@ pub same-bytes : SameBytes
 unfolding answering leaving
 same-bytes s out after f m x r a bytes e c t p q room w =
     let b : List ℕ = bodyOf headerWidth (accepted f) s in
-    let l = listened m b (paperFrame x) (paperRecord r) (judged m b) refl (p ∙ listed-reading s f m e c) q in
+    let l = listened m b (paperFrame x) (paperRecord r) (judged m b) refl (read-frame-as p ∙ listed-reading s f m e c) q in
     let zs : List ℤ = values (fields m) b 0 in
     let ts : List ℕ = texts (fields m) b 0 in
     let gs : List ℕ = groupsAs m b in
     let g : groupsPart (f .kind) b ≡ gs = listed-groups (f .kind) m b c in
     let j : judgedAs m zs ts gs (length out) ≡ accepted (f .total) = judged-again s f m bytes e c (l .good) t out room in (
-      w .answers ∙ rw (l .is, l .words, g) j,
-      w .leaves ∙ rw (l .is, l .words, g, j) (bytes-again s f m bytes e c (l .good) t out room),
+      write-as w .answers ∙ rw (l .is, l .words, g) j,
+      write-as w .leaves ∙ rw (l .is, l .words, g, j) (bytes-again s f m bytes e c (l .good) t out room),
     )

@@ -29,6 +29,7 @@ use Rattle.tracker.proofs.Unique.{named}
 use Rattle.tracker.proofs.Holder.{holder, at, holder-channel, holder-start, holder-well, Listed}
 use Rattle.demands.specs.Play.{Fresh, Told, told, Play, arrivals, only, answersTo, kept, historyOf, NeverFull, Holds, recordOf, done, step}
 use Rattle.demands.specs.Demand3.{HoldsItsList, TwoOrders, GapsFromHistory, MarksFromHistory, NineFromHistory, TickFromHistory, HeartbeatFromHistory, OthersRemoved, EverySetUpGives, EveryListPlays}
+use Rattle.demands.proofs.Calls.{set-up-as, arrives-as, sets-up, arrives}
 use Rattle.demands.proofs.Played.{seat, seat-listed, seat-same, seat-test, eventsAt, answersAt, Ends, ends as played, known-fresh, all-good}
 
 -- ---- a fresh record
@@ -46,10 +47,10 @@ took numbers t f = go (eqb (length numbers) 0) refl (ltb 8 (length numbers)) ref
     answer x y z = guard x (refused malformed []) (guard y (refused malformed []) (guard z (refused malformed []) (accepted (blankOf numbers))))
 
     said : given (answer (eqb (length numbers) 0) (ltb 8 (length numbers)) (not (ascends 0 numbers))) .said ≡ accepted tt
-    said = sym (ap (λ (r : Ready). r .said) (f .promise)) ∙ ap beganOf (f .ready)
+    said = sym (ap (λ (r : Ready). r .said) (set-up-as (f .promise))) ∙ ap beganOf (f .ready)
 
     gave : t ≡ given (answer (eqb (length numbers) 0) (ltb 8 (length numbers)) (not (ascends 0 numbers))) .tracker
-    gave = sym (f .gave) ∙ ap (λ (r : Ready). r .tracker) (f .promise)
+    gave = sym (f .gave) ∙ ap (λ (r : Ready). r .tracker) (set-up-as (f .promise))
 
     none : (n : ℕ) (v : List ℕ) → _≡_ {A = Answer Unit} (refused n v) (accepted tt) → ⊥
     none n v e = let z : _≡_ {A = ℕ} 0 1 = cc in omega arith
@@ -200,7 +201,7 @@ marks-from-history ns t u l f p k h = let x = view ns t u l f p k h .right in (x
 pub nine-from-history : NineFromHistory
 nine-from-history ns t u l f p k h e r low q =
     let v = view ns t u l f p k h in
-    rw (v .answer e r q) (nine 1 (recordOf u k) (historyOf k l) (v .right) e low)
+    rw (v .answer e r (arrives-as q)) (nine 1 (recordOf u k) (historyOf k l) (v .right) e low)
 
 pub tick-from-history : TickFromHistory
 tick-from-history ns t u l f p k h n r s q =
@@ -208,7 +209,7 @@ tick-from-history ns t u l f p k h n r s q =
     let low : tooLow (tick (pos n)) ≡ false = le-ltb n 1 s in
     let c = recordOf u k in
     let g = historyOf k l in
-    rw (v .answer (tick (pos n)) r q)
+    rw (v .answer (tick (pos n)) r (arrives-as q))
     (says-new 1 c g (v .right) n low, says-late 1 c g (v .right) n low s, says-duplicate 1 c g (v .right) n low s (v .size))
 
 pub heartbeat-from-history : HeartbeatFromHistory
@@ -217,7 +218,7 @@ heartbeat-from-history ns t u l f p k h m end r q =
     let v = view ns t u l f p k h in
     let e = heartbeat (pos m) end in
     let low : tooLow e ≡ false = le-ltb m 0 zero-le in
-    rw (v .answer e r q)
+    rw (v .answer e r (arrives-as q))
     (λ w. alone.accepted-says 1 (recordOf u k) (historyOf k l) (v .right) e heard w .1, λ w. alone.accepts 1 (recordOf u k) (historyOf k l) (v .right) e low w)
 
 pub others-removed : OthersRemoved
@@ -277,10 +278,10 @@ pub every-set-up-gives : EverySetUpGives
 every-set-up-gives numbers e =
     let x = setUp numbers in
     let y : ready (accepted tt) (x .tracker) ≡ ready (x .said) (x .tracker) = rw e in
-    record { answer = record { verdict = SetUp; tracker = x .tracker }; promise = y; ready = refl; gave = refl }
+    record { answer = record { verdict = SetUp; tracker = x .tracker }; promise = sets-up numbers (record { verdict = SetUp; tracker = x .tracker }) y; ready = refl; gave = refl }
 
 -- the word that an arrival is answered is one of the code's
-answer-named : (t : Tracker) (a : Arrival) → saidOf (named (arrived t a .said)) ≡ arrived t a .said
+pub answer-named : (t : Tracker) (a : Arrival) → saidOf (named (arrived t a .said)) ≡ arrived t a .said
 unfolding arrived named guard
 answer-named t a = go (not (wellFormed t)) (not (ltb i (t .count))) (judged (channel t i) (a .event)) (judge (channel t i) (a .event))
   where
@@ -301,7 +302,7 @@ answer-named t a = go (not (wellFormed t)) (not (ltb i (t .count))) (judged (cha
     go false false z (alone.full p q) = refl
     go false false z (alone.took p q) = word _
 
-abbrev outcome : Answer Said → Tracker → Outcome
+abbrev pub outcome : Answer Said → Tracker → Outcome
 outcome v t = record { said = v; next = t }
 
 pub every-list-plays : EveryListPlays
@@ -314,6 +315,6 @@ every-list-plays t (a ∷ l) c =
     record {
       steps = told a (saidOf (named (o .said))) ∷ x .steps;
       end = x .end;
-      plays = step a r (c .0) e (x .plays);
+      plays = step a r (c .0) (arrives t (a .channel) (a .event) r e) (x .plays);
       same = ap (λ (m : List Arrival). a ∷ m) (x .same);
     }

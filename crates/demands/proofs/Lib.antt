@@ -1,3 +1,4 @@
+pub mod Calls
 pub mod Cases
 pub mod Out
 pub mod Keeps
@@ -8,3 +9,7 @@ pub mod Demand2
 pub mod Demand3
 pub mod Played
 pub mod Requests
+pub mod Checked
+pub mod Known
+pub mod Receiver
+pub mod CalledFromC

@@ -30,6 +30,7 @@ use Rattle.tracker.specs.Arrived.{Arrival, place, Outcome, settled, arrived, sa
 use Rattle.tracker.proofs.Signed.{natural-most}
 use Rattle.tracker.proofs.Seated.{arrived-7, arrived-at}
 use Rattle.tracker.proofs.Holder.{holder, at, Good, AllGood, holder-put, holder-channel, holder-well, Listed}
+use Rattle.demands.proofs.Calls.{arrives-as}
 use Rattle.demands.specs.Play.{Callable, Told, told, Play, done, step, arrivals}
 
 -- ---- one channel's record, with the history that it is exact for
@@ -226,7 +227,7 @@ ends ns o (step {t} {u} {l} a r f p q) cs e n k = go (lt-or-le (seat ns (a .chan
 
     go : (i < length ns) ⊎ (length ns ≤ i) → ((ds : List Channel) → r .next ≡ holder ns ds → length ds ≡ length ns → AllKnown ds → Ends ns ds l u) → Ends ns cs (told a (saidOf (r .verdict)) ∷ l) u
     go (inl h) ih =
-        let w = p ∙ ap (λ (x : Tracker). arrived x a) e ∙ arrives ns o cs n k a f h in
+        let w = arrives-as p ∙ ap (λ (x : Tracker). arrived x a) e ∙ arrives ns o cs n k a f h in
         let g : i < length cs = omega arith in
         let x = ih (stepped cs i (a .event) g) (ap (λ (z : Outcome). z .next) w) (length-set cs i (after c (a .event)) ∙ n) (stepped-known cs i (a .event) g f k) in
         let v : saidOf (r .verdict) ≡ words (judged c (a .event)) = ap (λ (z : Outcome). z .said) w in
@@ -239,7 +240,7 @@ ends ns o (step {t} {u} {l} a r f p q) cs e n k = go (lt-or-le (seat ns (a .chan
           said = λ j m. rw (x .said j m, v) (stepped-said cs i (a .event) g j (eventsAt ns j (arrivals l)));
         }
     go (inr h) ih =
-        let w = p ∙ ap (λ (x : Tracker). arrived x a) e ∙ passes ns o cs n k a h in
+        let w = arrives-as p ∙ ap (λ (x : Tracker). arrived x a) e ∙ passes ns o cs n k a h in
         let x = ih cs (ap (λ (z : Outcome). z .next) w) n k in
         record {
           rows = x .rows;

@@ -34,7 +34,8 @@ use Rattle.tracker.specs.declared.Requested.{Requested}
 use Rattle.tracker.proofs.Batch.{asked-all, asked-batch, asked-within}
 use Rattle.tracker.proofs.Fitting.{request-length, judged-request, answers-by, leaves-by}
 use Rattle.demands.specs.Play.{Fresh, Told, Play, historyOf, Holds, recordOf}
-use Rattle.demands.specs.Requests.{Call, Asks, Requests, RequestReads, Lacks, AsksForMissing, RequestAsksForMissing, NothingIsMissing}
+use Rattle.demands.proofs.Calls.{request-as}
+use Rattle.demands.specs.Requests.{Asks, Requests, RequestReads, Lacks, AsksForMissing, RequestAsksForMissing, NothingIsMissing}
 use Rattle.demands.proofs.Back.{back-known}
 use Rattle.demands.proofs.Demand3.{view}
 
@@ -92,7 +93,7 @@ module _ (t : Tracker) (k : ℕ) (c : k < 256 ^ 2) (out after : List ℕ) (n : �
 
 pub request-reads : RequestReads
 request-reads t k out after a n c call e =
-    by-first t k c out after n (firstRun t k) refl (sym (answers-by t k out refl) ∙ sym (call .answers) ∙ e) (call .leaves ∙ leaves-by t k out refl)
+    by-first t k c out after n (firstRun t k) refl (sym (answers-by t k out refl) ∙ sym (request-as call .answers) ∙ e) (request-as call .leaves ∙ leaves-by t k out refl)
 
 -- ---- by the history
 
@@ -170,5 +171,5 @@ empty (r ∷ l) e n i = let z : _≡_ {A = ℕ} 0 1 = cc in omega arith
 
 pub nothing-is-missing : NothingIsMissing
 nothing-is-missing ns t u l f p k h out after a call e n m =
-    let q = none-first u k (length out) (firstRun u k) refl (sym (answers-by u k out refl) ∙ sym (call .answers) ∙ e) in
+    let q = none-first u k (length out) (firstRun u k) refl (sym (answers-by u k out refl) ∙ sym (request-as call .answers) ∙ e) in
     empty (recordOf u k .runs) (first-of u k nothingMissing q .same) n (view ns t u l f p k h .right .back n m)

@@ -1,7 +1,7 @@
 -- Demand 1: "Every public call ends and does nothing undefined for every input. Bad frames, channels, numbers and short buffers get
 -- the refusal that document 01 names, in its order, and a refusal leaves the lent output and the gap record as they stood."
 -- That every call ends and does nothing undefined is what the check of each crate proves. Here: for each call document 01's refusals in
--- its order, each with its condition (specs/Conditions); and of every answer of the code that meets its promise, that it is the first
+-- its order, each with its condition (specs/Conditions); and of every answer that the call's contract allows (specs/Calls), that it is the first
 -- refusal whose condition holds, and a success where none does, and that a refusal leaves things as they stood (specs/Rules).
 -- Assumes nothing.
 use Prim.Native.Nat.{ℕ, _+_, _≤_, _<_}
@@ -17,15 +17,14 @@ use Rattle.frame.specs.Framing.{bodyLimit}
 use Rattle.layout.specs.Layout.{fields, named}
 use Rattle.layout.specs.Group.{group}
 use Rattle.layout.specs.Paper as layout
-use Rattle.record.specs.Asked.{noSuchEntry, judging}
-use Rattle.record.specs.Record.{Reading, known, unknown, reading, frameReading, groupAsked}
+use Rattle.record.specs.Asked.{noSuchEntry}
+use Rattle.record.specs.Record.{Reading, known, unknown}
 use Rattle.record.specs.Paper.{paperRecord, paper, paperFrame, paperGroup}
 use Rattle.record.specs.declared.Record.{Record}
-use Rattle.entries.specs.Entry.{At, entryAsked, quantityAsked, stepOf}
+use Rattle.entries.specs.Entry.{At}
 use Rattle.entries.specs.Paper.{paperAskedEntry, paperQuantity, paperCursor, paperStep}
 use Rattle.entries.specs.declared.cursor.Cursor.{Cursor}
 use Rattle.bodies.specs.Body.{bodyLength, stated}
-use Rattle.writer.specs.Write.{answering, leaving}
 use Rattle.writer.specs.Paper as writer
 use Rattle.gaps.specs.Channel.{Event}
 use Rattle.seats.specs.Places.{channelLimit}
@@ -33,6 +32,8 @@ use Rattle.tracker.specs.declared.Tracker.{Tracker}
 use Rattle.tracker.specs.SetUp as starting
 use Rattle.tracker.specs.Arrived as arriving
 use Rattle.tracker.specs.Request as asking
+use Rattle.tracker.specs.declared.Requested.{Requested}
+use Rattle.demands.specs.Calls.{FrameRead, ReadFrame, Read, Judge, GroupOf, EntryOf, QuantityOf, CursorStep, Write, SetsUp, Arrives, Request}
 use Rattle.demands.specs.Play.{recordOf}
 use Rattle.demands.specs.Rules.{Rule, _if_, Judged, OrNone, Kept, Every}
 use Rattle.demands.specs.Conditions.{L, SumDiffers, Lacks, Strays, behindOf, groupCount, entryCount, shownCount, entriesLeft, EntryLacks, EntryStrays, Exactly, NumberOut, SomeGroupOut, Falls, Keeps, NotIn, Low, Overfills, RequestShort}
@@ -74,39 +75,41 @@ requestRules t k room = malformed if (Keeps t → ⊥) ∷ noSuchChannel if NotI
 
 pub record Demand1 : Type 1 where
   -- `frame::read`, `record::read_frame`, `record::read`, `record::judge`
-  pub frame-read : (s : List ℕ) → Every frame.paper (frame.framing frame.headerWidth bodyLimit s) (λ a. Judged (frameRules s) a)
-  pub read-frame : (s : List ℕ) → Every paperFrame (frameReading s) (λ a. Judged (readerRules s) (a .answer))
-  pub read : (type : ℕ) (b : List ℕ) → Every paper (reading type b) (λ a. Judged (bodyRules type b) (a .answer))
-  pub judge : (type : ℕ) (b : List ℕ) → Every layout.paper (judging type b) (λ a. Judged (bodyRules type b) a)
+  pub frame-read : (s : List ℕ) → Every frame.paper (FrameRead s) (λ a. Judged (frameRules s) a)
+  pub read-frame : (s : List ℕ) → Every paperFrame (ReadFrame s) (λ a. Judged (readerRules s) (a .answer))
+  pub read : (type : ℕ) (b : List ℕ) → Every paper (Read type b) (λ a. Judged (bodyRules type b) (a .answer))
+  pub judge : (type : ℕ) (b : List ℕ) → Every layout.paper (Judge type b) (λ a. Judged (bodyRules type b) a)
   -- `record::group_of`, `entries::entry_of`, `entries::quantity_of`, by position; `Cursor::step`
   pub group-of :
-      (type : ℕ) (b : List ℕ) (i : ℕ) → Every paperGroup (groupAsked type b i)
+      (type : ℕ) (b : List ℕ) (i : ℕ) → Every paperGroup (GroupOf type b i)
       (λ a. OrNone (bodyRules type b) noSuchEntry (groupCount type b ≤ i) (a .answer))
   pub entry-of :
-      (type : ℕ) (b : List ℕ) (i : ℕ) → Every paperAskedEntry (entryAsked type b i)
+      (type : ℕ) (b : List ℕ) (i : ℕ) → Every paperAskedEntry (EntryOf type b i)
       (λ a. OrNone (bodyRules type b) noSuchEntry (entryCount type b ≤ i) a)
   pub quantity-of :
-      (type : ℕ) (b : List ℕ) (i j : ℕ) → Every paperQuantity (quantityAsked type b i j)
+      (type : ℕ) (b : List ℕ) (i j : ℕ) → Every paperQuantity (QuantityOf type b i j)
       (λ a. OrNone (bodyRules type b) noSuchEntry ((entryCount type b ≤ i) ⊎ (shownCount type b i ≤ j)) a)
   pub step :
-      (type : ℕ) (b : List ℕ) (c : Cursor) → Every paperStep (stepOf (named type) b (paperCursor c))
+      (type : ℕ) (b : List ℕ) (c : Cursor) → Every paperStep (CursorStep c type b)
       (λ a. OrNone (stepRules type b (paperCursor c)) noSuchEntry (entriesLeft type (paperCursor c) ≡ 0) a)
   -- `writer::write`, and the lent output
   pub write :
-      (r : Record) (ts gs out : List ℕ) → Every writer.paper (answering (paperRecord r) ts gs out)
-      (λ a. Kept (writerRules (paperRecord r) ts gs (length out)) a out (leaving (paperRecord r) ts gs out))
+      (r : Record) (ts gs out after : List ℕ) → Every writer.paper (λ a. Write r ts gs out a after)
+      (λ a. Kept (writerRules (paperRecord r) ts gs (length out)) a out after)
   -- `Tracker::set_up`: "set-up refused gives the all-zero tracker, with no channel, which later calls refuse by 10"
-  pub set-up : (numbers : List ℕ) → Every starting.paper (starting.setUp numbers) (λ a. Kept (setUpRules numbers) (a .said) (starting.blankOf []) (a .tracker))
+  pub set-up : (numbers : List ℕ) → Every starting.paper (SetsUp numbers) (λ a. Kept (setUpRules numbers) (a .said) (starting.blankOf []) (a .tracker))
   pub zero-breaks : Keeps (starting.blankOf []) → ⊥
   -- `Tracker::tick`, `Tracker::heartbeat`, and the gap record
   pub arrival :
-      (t : Tracker) (k : ℕ) (e : Event) → Every arriving.paper (arriving.arrived t (arriving.on k e))
+      (t : Tracker) (k : ℕ) (e : Event) → Every arriving.paper (Arrives t (arriving.on k e))
       (λ a. Kept (arrivalRules t k e) (a .said) t (a .next))
   -- `Tracker::request`, and the lent output, which stands also where nothing is missing
   pub request :
-      (t : Tracker) (k : ℕ) (out : List ℕ) → Every asking.paper (asking.answering t k out)
-      (λ a. Kept (requestRules t k (length out)) a out (asking.leaving t k out))
+      (t : Tracker) (k : ℕ) (out after : List ℕ) → Every asking.paper (λ a. Request t k out a after)
+      (λ a. Kept (requestRules t k (length out)) a out after)
   pub none-missing :
-      (t : Tracker) (k : ℕ) (out : List ℕ) → Every asking.paper (asking.answering t k out)
+      (t : Tracker) (k : ℕ) (out after : List ℕ) → Every asking.paper (λ a. Request t k out a after)
       (λ a. OrNone (requestRules t k (length out)) asking.nothing (recordOf t k .runs ≡ []) a)
-  pub none-written : (t : Tracker) (k : ℕ) (out : List ℕ) → asking.answering t k out ≡ accepted asking.nothing → asking.leaving t k out ≡ out
+  pub none-written :
+      (t : Tracker) (k : ℕ) (out after : List ℕ) (a : Requested) → Request t k out a after → asking.paper a ≡ accepted asking.nothing →
+      after ≡ out

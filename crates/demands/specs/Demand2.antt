@@ -1,7 +1,7 @@
 -- Demand 2: "Reading and writing follow the exchange's Binary interface 1.02 as condensed in document 01. What is written reads back
 -- as the same fields. A frame of a listed type that is read and written again has the same bytes where its body has no extra tail."
--- That a call follows document 01 is its promise, `paper r ≡ definition`. Here: what is accepted and what is written, and that nothing
--- is lost on the way in either direction.
+-- That a call follows document 01 is its promise, `paper r ≡ definition`. Here, of every answer that the contracts allow (specs/Calls):
+-- what is accepted and what is written, and that nothing is lost on the way in either direction.
 -- Assumes nothing.
 use Prim.Native.Nat.{ℕ, _+_, _≤_}
 use mathlib.Core.Path.{_≡_}
@@ -21,9 +21,10 @@ use Rattle.record.specs.Paper.{paperRecord, paperFrame}
 use Rattle.record.specs.declared.Record.{Record}
 use Rattle.record.specs.declared.framed.FrameReading.{FrameReading}
 use Rattle.bodies.specs.Body.{Numbers, body, bodyLength}
-use Rattle.writer.specs.Write.{frameOf, answering, leaving}
+use Rattle.writer.specs.Write.{frameOf}
 use Rattle.writer.specs.Paper.{paper}
 use Rattle.writer.specs.declared.Written.{Written}
+use Rattle.demands.specs.Calls.{ReadFrame, Write}
 use Rattle.demands.specs.Rules.{Rule}
 use Rattle.demands.specs.Demand1.{readerRules, writerRules}
 
@@ -39,18 +40,13 @@ NoneOf (r ∷ rs) = (r .when → ⊥) × NoneOf rs
 
 -- the reader accepts exactly the frames that none of 1 to 5 describes
 abbrev pub Reader : Type 0
-Reader = (s : List ℕ) (x : FrameReading) → paperFrame x ≡ frameReading s → Accepted (paperFrame x .answer) ↔ NoneOf (readerRules s)
+Reader = (s : List ℕ) (x : FrameReading) → ReadFrame s x → Accepted (paperFrame x .answer) ↔ NoneOf (readerRules s)
 
 -- ---- the writer answers "written" exactly where none of 5, 4, 5, 2, 6 holds
 
--- a call of the writer: its answer, and the output after it
-pub record Call (r : Record) (ts gs out : List ℕ) (a : Written) (after : List ℕ) : Type 0 where
-  pub answers : paper a ≡ answering (paperRecord r) ts gs out
-  pub leaves : after ≡ leaving (paperRecord r) ts gs out
-
 abbrev pub Writer : Type 0
 Writer =
-    (r : Record) (ts gs out after : List ℕ) (a : Written) → Call r ts gs out a after →
+    (r : Record) (ts gs out after : List ℕ) (a : Written) → Write r ts gs out a after →
     Accepted (paper a) ↔ NoneOf (writerRules (paperRecord r) ts gs (length out))
 
 -- written: header, body by layout, checksum, and the old bytes behind them; refused: every byte as it stood
@@ -62,7 +58,7 @@ pub data Holds (out : List ℕ) : Answer ℕ → Reading → List ℕ → List �
 
 abbrev pub Output : Type 0
 Output =
-    (r : Record) (ts gs out after : List ℕ) (a : Written) → Call r ts gs out a after → Holds out (paper a) (paperRecord r) ts gs after
+    (r : Record) (ts gs out after : List ℕ) (a : Written) → Write r ts gs out a after → Holds out (paper a) (paperRecord r) ts gs after
 
 -- ---- "What is written reads back as the same fields"
 
@@ -82,7 +78,7 @@ pub record Reads (x : Reading) (ts gs : List ℕ) (n : ℕ) (s : List ℕ) : Typ
 -- whatever stood in the output before, and so behind the frame
 abbrev pub ReadsBack : Type 0
 ReadsBack =
-    (r : Record) (ts gs out after : List ℕ) (a : Written) (n : ℕ) → Held (paperRecord r) → Call r ts gs out a after →
+    (r : Record) (ts gs out after : List ℕ) (a : Written) (n : ℕ) → Held (paperRecord r) → Write r ts gs out a after →
     paper a ≡ accepted n → Reads (paperRecord r) ts gs n after
 
 -- ---- "A frame of a listed type that is read and written again has the same bytes where its body has no extra tail"
@@ -94,6 +90,6 @@ abbrev pub SameBytes : Type 0
 SameBytes =
     (s out after : List ℕ) (f : Frame) (m : Message) (x : FrameReading) (r : Record) (a : Written) → Bytes s →
     framing headerWidth bodyLimit s ≡ accepted f → named (f .kind) ≡ listed m → NoTail m (bodyOf headerWidth (accepted f) s) →
-    paperFrame x ≡ frameReading s → paperFrame x .answer ≡ accepted (paperRecord r) → f .total ≤ length out →
-    Call r (take (paperFrame x .used) (paperFrame x .texts)) (groupsPart (f .kind) (bodyOf headerWidth (accepted f) s)) out a after →
+    ReadFrame s x → paperFrame x .answer ≡ accepted (paperRecord r) → f .total ≤ length out →
+    Write r (take (paperFrame x .used) (paperFrame x .texts)) (groupsPart (f .kind) (bodyOf headerWidth (accepted f) s)) out a after →
     (paper a ≡ accepted (f .total)) × (after ≡ take (f .total) s ++ drop (f .total) out)

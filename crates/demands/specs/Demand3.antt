@@ -14,7 +14,8 @@ use Rattle.tracker.specs.declared.Tracker.{Tracker}
 use Rattle.tracker.specs.declared.Reply.{Reply}
 use Rattle.seats.specs.Places.{firstNumber}
 use Rattle.tracker.specs.SetUp.{setUp}
-use Rattle.tracker.specs.Arrived.{Arrival, on, saidOf, arrived, paper}
+use Rattle.tracker.specs.Arrived.{Arrival, on, saidOf}
+use Rattle.demands.specs.Calls.{Arrives}
 use Rattle.demands.specs.Play.{Fresh, Told, Play, arrivals, only, answersTo, historyOf, NeverFull, Holds, recordOf, AllCallable, Playable}
 
 -- The channels that a fresh gap record holds are those of its list.
@@ -49,14 +50,14 @@ WouldFill k l e = Overfull firstNumber (historyOf k l ++ (e ∷ []))
 abbrev pub NineFromHistory : Type 0
 NineFromHistory =
     (numbers : List ℕ) (t u : Tracker) (l : List Told) → Fresh numbers t → Play t l u → (k : ℕ) → Holds t k →
-    (e : Event) (r : Reply) → tooLow e ≡ false → paper r ≡ arrived u (on k e) →
+    (e : Event) (r : Reply) → tooLow e ≡ false → Arrives u (on k e) r →
     (saidOf (r .verdict) ≡ refused tableFull []) ↔ WouldFill k l e
 
 -- else new exactly when above the history's highest, late exactly when not above it and not brought, duplicate exactly when brought
 abbrev pub TickFromHistory : Type 0
 TickFromHistory =
     (numbers : List ℕ) (t u : Tracker) (l : List Told) → Fresh numbers t → Play t l u → (k : ℕ) → Holds t k →
-    (n : ℕ) (r : Reply) → 1 ≤ n → paper r ≡ arrived u (on k (tick (pos n))) →
+    (n : ℕ) (r : Reply) → 1 ≤ n → Arrives u (on k (tick (pos n))) r →
     ((saidOf (r .verdict) ≡ accepted new) ↔ ((top firstNumber (historyOf k l) < n) × (WouldFill k l (tick (pos n)) → ⊥)))
     × ((saidOf (r .verdict) ≡ accepted late)
     ↔ ((n ≤ top firstNumber (historyOf k l)) × (Brought (historyOf k l) n → ⊥) × (WouldFill k l (tick (pos n)) → ⊥)))
@@ -66,7 +67,7 @@ TickFromHistory =
 abbrev pub HeartbeatFromHistory : Type 0
 HeartbeatFromHistory =
     (numbers : List ℕ) (t u : Tracker) (l : List Told) → Fresh numbers t → Play t l u → (k : ℕ) → Holds t k →
-    (m : ℕ) (end : Bool) (r : Reply) → paper r ≡ arrived u (on k (heartbeat (pos m) end)) →
+    (m : ℕ) (end : Bool) (r : Reply) → Arrives u (on k (heartbeat (pos m) end)) r →
     (saidOf (r .verdict) ≡ accepted heard) ↔ (WouldFill k l (heartbeat (pos m) end) → ⊥)
 
 -- "Removing the other channels' arrivals changes neither that channel's gaps nor its answers, a full table included."

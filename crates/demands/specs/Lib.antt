@@ -1,3 +1,4 @@
+pub mod Calls
 pub mod Cases
 pub mod Play
 pub mod Rules
@@ -6,3 +7,7 @@ pub mod Demand1
 pub mod Demand2
 pub mod Demand3
 pub mod Requests
+pub mod Checked
+pub mod Known
+pub mod Receiver
+pub mod CalledFromC

@@ -17,14 +17,10 @@ use Rattle.gaps.specs.History.{Missing}
 use Rattle.tracker.specs.declared.Tracker.{Tracker}
 use Rattle.tracker.specs.FirstRun.{lost, firstRun}
 use Rattle.seats.specs.Places.{firstNumber}
-use Rattle.tracker.specs.Request.{batch, asked, space, written, nothing, answering, leaving, paper}
+use Rattle.tracker.specs.Request.{batch, asked, space, written, nothing, paper}
 use Rattle.tracker.specs.declared.Requested.{Requested}
+use Rattle.demands.specs.Calls.{Request}
 use Rattle.demands.specs.Play.{Fresh, Told, Play, historyOf, Holds}
-
--- a call of the request: its answer, and the output after it
-pub record Call (t : Tracker) (k : ℕ) (out : List ℕ) (a : Requested) (after : List ℕ) : Type 0 where
-  pub answers : paper a ≡ answering t k out
-  pub leaves : after ≡ leaving t k out
 
 -- bytes that begin with a frame of 390094, L 44, 56 bytes, which reads as resend type 1, channel k, the numbers of r, status 0 and spaces
 pub record Asks (k : ℕ) (r : Run) (s : List ℕ) : Type 0 where
@@ -43,7 +39,7 @@ pub record Requests (t : Tracker) (k n : ℕ) (s : List ℕ) : Type 0 where
 -- whatever stood in the output before, for every channel number of two bytes
 abbrev pub RequestReads : Type 0
 RequestReads =
-    (t : Tracker) (k : ℕ) (out after : List ℕ) (a : Requested) (n : ℕ) → k < 256 ^ 2 → Call t k out a after →
+    (t : Tracker) (k : ℕ) (out after : List ℕ) (a : Requested) (n : ℕ) → k < 256 ^ 2 → Request t k out a after →
     paper a ≡ accepted (written n) → Requests t k n after
 
 -- ---- by the history
@@ -67,10 +63,10 @@ pub record AsksForMissing (k : ℕ) (l : List Told) (s : List ℕ) : Type 0 wher
 abbrev pub RequestAsksForMissing : Type 0
 RequestAsksForMissing =
     (numbers : List ℕ) (t u : Tracker) (l : List Told) → Fresh numbers t → Play t l u → (k : ℕ) → Holds t k → k < 256 ^ 2 →
-    (out after : List ℕ) (a : Requested) (n : ℕ) → Call u k out a after → paper a ≡ accepted (written n) → AsksForMissing k l after
+    (out after : List ℕ) (a : Requested) (n : ℕ) → Request u k out a after → paper a ≡ accepted (written n) → AsksForMissing k l after
 
 -- and one that is answered "nothing missing" has none to ask for
 abbrev pub NothingIsMissing : Type 0
 NothingIsMissing =
     (numbers : List ℕ) (t u : Tracker) (l : List Told) → Fresh numbers t → Play t l u → (k : ℕ) → Holds t k →
-    (out after : List ℕ) (a : Requested) → Call u k out a after → paper a ≡ accepted nothing → (n : ℕ) → Lacks k l n → ⊥
+    (out after : List ℕ) (a : Requested) → Request u k out a after → paper a ≡ accepted nothing → (n : ℕ) → Lacks k l n → ⊥

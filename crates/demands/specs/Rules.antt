@@ -31,6 +31,6 @@ pub record Kept {A S : Type 0} (rules : List Rule) (answer : Answer A) (stood gi
   pub judged : Judged rules answer
   pub same : (n : ℕ) (vs : List ℕ) → answer ≡ refused n vs → given ≡ stood
 
--- every answer of the code that meets its promise, `paper r ≡ definition`
-abbrev pub Every : {R A : Type 0} → (R → A) → A → (A → Type 1) → Type 1
-Every {R} {A} paper definition says = (r : R) → paper r ≡ definition → says (paper r)
+-- every answer that the call can give
+abbrev pub Every : {R A : Type 0} → (R → A) → (R → Type 0) → (A → Type 1) → Type 1
+Every {R} {A} paper Can says = (r : R) → Can r → says (paper r)
