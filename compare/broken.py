@@ -26,10 +26,10 @@ def of_target(name):
 
 
 def crates():
-    """board, and what it uses."""
+    """orizhgum, and what it uses."""
     lines = (TOP / "crates.txt").read_text().splitlines()
     uses = dict(line.split(":") for line in lines if ":" in line)
-    return uses["board"].split() + ["board"]
+    return uses["orizhgum"].split() + ["orizhgum"]
 
 
 def edited(folder, edit):
@@ -50,7 +50,7 @@ def edited(folder, edit):
 
 def archive(scratch, sources):
     """The archive of these sources, unproved."""
-    subprocess.run([TOP / ".ci/unproved", sources, "board", scratch / "libboard.a"], check=True)
+    subprocess.run([TOP / ".ci/unproved", sources, "orizhgum", scratch / "liborizhgum.a"], check=True)
 
 
 def rustc(*words):
@@ -64,7 +64,7 @@ def rustc(*words):
 def first_difference(scratch):
     """The call of the first difference between archive and second program."""
     words = ["--extern", f"compare={scratch}/libcompare.rlib", "-o", scratch / "longer"]
-    rustc("src/bin/longer.rs", *words, "-C", f"link-arg={scratch}/libboard.a")
+    rustc("src/bin/longer.rs", *words, "-C", f"link-arg={scratch}/liborizhgum.a")
     runner = [of_target("RUNNER")] if TARGET else []
     ran = subprocess.run([*runner, scratch / "longer", *RUN], capture_output=True, text=True)
     told = re.search(r"^difference at input (\d+) .*?^call: +(.*?)$", ran.stdout, re.M | re.S)
@@ -89,7 +89,7 @@ def main(wanted):
             if edit:
                 edited(sources / edit.parent.parent.name, edit)
             archive(scratch, sources)
-            built = (scratch / "libboard.a").read_bytes()
+            built = (scratch / "liborizhgum.a").read_bytes()
             unedited = unedited or built
             same = edit and built == unedited
             told = "the archive is the same" if same else first_difference(scratch)

@@ -1,4 +1,4 @@
-//! Links the product's archive: `libboard.a` of the folder that `BOARD`
+//! Links the product's archive: `liborizhgum.a` of the folder that `BOARD`
 //! names, or of `../target/staticlib`.
 
 use std::path::{Path, PathBuf};
@@ -9,16 +9,16 @@ fn main() {
         Some(folder) => PathBuf::from(folder),
         None => Path::new(env!("CARGO_MANIFEST_DIR")).join("../target/staticlib"),
     };
-    let archive = folder.join("libboard.a");
+    let archive = folder.join("liborizhgum.a");
     println!("cargo:rerun-if-env-changed=BOARD");
     println!("cargo:rerun-if-changed={}", archive.display());
     if !archive.is_file() {
         eprintln!(
-            "{} is missing: run `rt staticlib board` at the top of the repository, or name the archive's folder in BOARD",
+            "{} is missing: run `rt staticlib orizhgum` at the top of the repository, or name the archive's folder in BOARD",
             archive.display()
         );
         exit(1);
     }
     println!("cargo:rustc-link-search=native={}", folder.display());
-    println!("cargo:rustc-link-lib=static=board");
+    println!("cargo:rustc-link-lib=static=orizhgum");
 }

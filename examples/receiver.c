@@ -1,8 +1,8 @@
 /* A receiver of two channels: reads a capture from standard input, prints the levels of each snapshot, tracks which
  * numbers never came, and asks for them.
  *
- *     rt staticlib board
- *     cc -Iinclude examples/receiver.c target/staticlib/libboard.a -o receiver
+ *     rt staticlib orizhgum
+ *     cc -Iinclude examples/receiver.c target/staticlib/liborizhgum.a -o receiver
  *     ./receiver < samples/opening.bin */
 #include "orizhgum.h"
 

@@ -2,7 +2,7 @@
 fn main() {
     println!("cargo:rerun-if-env-changed=ARCHIVE");
     if let Ok(folder) = std::env::var("ARCHIVE") {
-        println!("cargo:rustc-link-arg-bin=pace={folder}/libboard.a");
-        println!("cargo:rerun-if-changed={folder}/libboard.a");
+        println!("cargo:rustc-link-arg-bin=pace={folder}/liborizhgum.a");
+        println!("cargo:rerun-if-changed={folder}/liborizhgum.a");
     }
 }

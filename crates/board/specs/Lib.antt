@@ -1,7 +1,0 @@
-pub mod Board
-pub mod Records
-pub mod Groups
-pub mod Entries
-pub mod Arrivals
-pub mod Written
-pub mod Requested

@@ -1,0 +1,24 @@
+-- What the C interface answers of an arrival and of a request, by the promises of the calls over lent arrays.
+-- Assumes nothing.
+use Prim.Native.Nat.{ℕ}
+use mathlib.Core.Path.{_≡_, ap, _∙_}
+use mathlib.Core.List.{List}
+use Rattle.tracker.specs.declared.Tracker.{Tracker}
+use Rattle.tracker.specs.declared.Verdict.{Verdict}
+use Rattle.tracker.specs.Arrived.{Outcome, saidOf, answered}
+use Rattle.tracker.specs.declared.Requested.{Requested}
+use Rattle.tracker.specs.Request.{answering, leaving, paper}
+use Rattle.orizhgum.specs.Requested.{requestAnswer}
+use Rattle.orizhgum.specs.Arrivals.{Arrived, saidNumber, arrivalAnswer}
+use Rattle.orizhgum.proofs.Answered.{answers}
+
+-- an arrival's answer by its number, and the next tracker
+pub lent : (v : Verdict) (u : Tracker) {o : Outcome} {n : ℕ} → n ≡ saidNumber (saidOf v) → answered v u ≡ o →
+    _≡_ {A = Arrived} (record { answer = n; next = u }) (arrivalAnswer o)
+lent v u p q = (λ i. record { answer = p i; next = u }) ∙ ap arrivalAnswer q
+
+-- a request of the tracker that the arrays hold
+pub meets :
+    (t : Tracker) (k : ℕ) (out : List ℕ) {after : List ℕ} {x v : Requested} → x ≡ v → paper x ≡ answering t k out → after ≡ leaving t k out →
+    (requestAnswer (paper v) ≡ requestAnswer (answering t k out)) × (after ≡ leaving t k out)
+meets t k out e p q = (answers paper requestAnswer e p, q)

@@ -1,0 +1,30 @@
+-- What the C interface answers of a group.
+-- Assumes nothing.
+use Prim.Native.Nat.{ℕ}
+use mathlib.Core.List.{List, [], _∷_}
+use lib.IntN.{ℤ, natAbs}
+use Rattle.wire.specs.Answer.{Answer, accepted, refused}
+use Rattle.record.specs.Asked.{Told, Asked, found, noSuchEntry}
+use Rattle.orizhgum.specs.Numbers.{plain, noSuchEntryNumber}
+use Rattle.orizhgum.specs.declared.groups.Grouped.{Grouped}
+
+-- "stream, stock number, phase" has one number, "switch type, yes/no" two
+abbrev pub numbered : List ℤ → List ℕ → Grouped
+numbered [] ts =
+    record { answer = plain; «stock_number» = 0; «switch_type» = 0; «yes_no» = 0; texts = ts }
+numbered (x ∷ []) ts =
+    record { answer = plain; «stock_number» = natAbs x; «switch_type» = 0; «yes_no» = 0; texts = ts }
+numbered (x ∷ (y ∷ vs)) ts =
+    record { answer = plain; «stock_number» = 0; «switch_type» = natAbs x; «yes_no» = natAbs y; texts = ts }
+
+-- without a group, the answer's number and zeros
+abbrev pub without : ℕ → List ℕ → Grouped
+without n ts = record { answer = n; «stock_number» = 0; «switch_type» = 0; «yes_no» = 0; texts = ts }
+
+abbrev pub groupTold : Answer (Asked (List ℤ)) → List ℕ → Grouped
+groupTold (accepted (found vs)) ts = numbered vs ts
+groupTold (accepted noSuchEntry) ts = without noSuchEntryNumber ts
+groupTold (refused n vs) ts = without n ts
+
+unfoldable pub groupAnswer : Told (Asked (List ℤ)) → Grouped
+groupAnswer t = groupTold (t .answer) (t .texts)

@@ -1,0 +1,12 @@
+-- What the C interface answers of the request.
+-- Assumes nothing.
+use Rattle.wire.specs.Answer.{Answer, accepted, refused}
+use Rattle.tracker.specs.Request.{Said, written, nothing}
+use Rattle.orizhgum.specs.Numbers.{plain, nothingMissingNumber}
+use Rattle.orizhgum.specs.declared.written.WriteAnswer.{WriteAnswer}
+
+-- how many bytes were written; "No run: nothing missing, nothing written"; "a refusal returns its number"
+unfoldable pub requestAnswer : Answer Said → WriteAnswer
+requestAnswer (accepted (written n)) = record { answer = plain; written = n }
+requestAnswer (accepted nothing) = record { answer = nothingMissingNumber; written = 0 }
+requestAnswer (refused n vs) = record { answer = n; written = 0 }

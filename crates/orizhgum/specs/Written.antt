@@ -1,0 +1,11 @@
+-- What the C interface answers of the writer.
+-- Assumes nothing.
+use Prim.Native.Nat.{ℕ}
+use Rattle.wire.specs.Answer.{Answer, accepted, refused}
+use Rattle.orizhgum.specs.Numbers.{plain}
+use Rattle.orizhgum.specs.declared.written.WriteAnswer.{WriteAnswer}
+
+-- how many bytes were written; "a refusal returns its number"
+unfoldable pub writeAnswer : Answer ℕ → WriteAnswer
+writeAnswer (accepted n) = record { answer = plain; written = n }
+writeAnswer (refused n vs) = record { answer = n; written = 0 }

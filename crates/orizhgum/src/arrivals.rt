@@ -1,0 +1,115 @@
+// The tracker: set up, and the tick and channel heartbeat over its arrays, which become those of the next one.
+ghost use mathlib.Core.Path.{_≡_};
+ghost use Rattle.gaps.specs.Channel.{tick, heartbeat};
+ghost use Rattle.tracker.specs.SetUp.{setUp};
+ghost use Rattle.tracker.specs.Arrived.{on, arrived, saidOf};
+ghost use Rattle.orizhgum.specs.Arrivals.{saidNumber, startAnswer, ending, heldIn, left, arrivalAnswer};
+use crate::answers::DUPLICATE;
+use crate::answers::LATE;
+use crate::answers::PLAIN;
+use seats::Seat;
+use tracker::Start;
+use tracker::Tracker;
+use tracker::Verdict;
+use tracker::heartbeat_in;
+use tracker::tick_in;
+
+#[repr(C)]
+pub struct StartAnswer {
+    pub answer: u32,
+    pub tracker: Tracker,
+}
+
+// The number of an arrival's answer.
+fn verdict_number(verdict: Verdict) -> u32
+    ensures { λ r. ⌜ r ≡ saidNumber (saidOf verdict) ⌝ }
+{
+    match verdict {
+        Verdict::New => PLAIN,
+        Verdict::Late => LATE,
+        Verdict::Duplicate => DUPLICATE,
+        Verdict::Heard => PLAIN,
+        Verdict::NotInTracker => 7,
+        Verdict::BelowRange => 8,
+        Verdict::Full => 9,
+        Verdict::Malformed => 10,
+    }
+}
+
+// A tracker of these channels that nothing has reached, or the all-zero tracker where they are refused.
+#[no_mangle]
+pub extern "C" fn orizhgum_set_up(channels: &[u16]) -> StartAnswer
+    ensures { λ r. ⌜ r ≡ startAnswer (setUp (now (channels .entry))) ⌝ }
+{
+    let s = Tracker::set_up(channels);
+    let verdict = s.verdict;
+    let tracker = s.tracker;
+    match verdict {
+        Start::SetUp => StartAnswer {
+            answer: PLAIN,
+            tracker,
+        },
+        Start::Malformed => StartAnswer {
+            answer: 10,
+            tracker,
+        },
+    }
+}
+
+// A tick on a channel of the tracker that the arrays hold, which become those of the next one; a refusal leaves them as they stood.
+#[no_mangle]
+pub extern "C" fn orizhgum_tick_in(
+    count: usize,
+    numbers: &[u16; Tracker::CHANNELS],
+    highest: &mut [u64; Tracker::CHANNELS],
+    ended: &mut [u8; Tracker::CHANNELS],
+    counts: &mut [usize; Tracker::CHANNELS],
+    first: &mut [u64; Seat::PLACES],
+    last: &mut [u64; Seat::PLACES],
+    channel: u16,
+    number: i64,
+) -> u32
+    ensures { λ r. ⌜ left r count (now (numbers .entry)) (now (highest .exit)) (now (ended .exit)) (now (counts .exit)) (now (first .exit)) (now (last .exit)) ≡ arrivalAnswer (arrived (heldIn count (now (numbers .entry)) (now (highest .entry)) (now (ended .entry)) (now (counts .entry)) (now (first .entry)) (now (last .entry))) (on channel (tick number))) ⌝ }
+{
+    verdict_number(tick_in(
+        count,
+        numbers,
+        highest,
+        ended,
+        counts,
+        first,
+        last,
+        channel,
+        number,
+    ))
+}
+
+// A channel heartbeat, in the same way; end 0 is no, anything else yes.
+#[no_mangle]
+pub extern "C" fn orizhgum_heartbeat_in(
+    count: usize,
+    numbers: &[u16; Tracker::CHANNELS],
+    highest: &mut [u64; Tracker::CHANNELS],
+    ended: &mut [u8; Tracker::CHANNELS],
+    counts: &mut [usize; Tracker::CHANNELS],
+    first: &mut [u64; Seat::PLACES],
+    last: &mut [u64; Seat::PLACES],
+    channel: u16,
+    last_number: i64,
+    end: u8,
+) -> u32
+    ensures { λ r. ⌜ left r count (now (numbers .entry)) (now (highest .exit)) (now (ended .exit)) (now (counts .exit)) (now (first .exit)) (now (last .exit)) ≡ arrivalAnswer (arrived (heldIn count (now (numbers .entry)) (now (highest .entry)) (now (ended .entry)) (now (counts .entry)) (now (first .entry)) (now (last .entry))) (on channel (heartbeat «last_number» (ending end)))) ⌝ }
+{
+    verdict_number(heartbeat_in(
+        count,
+        numbers,
+        highest,
+        ended,
+        counts,
+        first,
+        last,
+        channel,
+        last_number,
+        end != 0,
+    ))
+}

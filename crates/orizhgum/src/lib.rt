@@ -1,0 +1,42 @@
+// The C interface: exported functions over the crates below. Answer 0 is the plain one, 1 to 99 are document 01's refusals.
+ghost use mathlib.Core.Path.{_≡_};
+ghost use Rattle.frame.specs.Framing.{framing, headerWidth, bodyLimit};
+ghost use Rattle.orizhgum.specs.Numbers.{frameAnswer};
+use frame::Framed;
+
+mod answers;
+pub mod arrivals;
+mod entry;
+mod groups;
+pub mod records;
+pub mod requested;
+mod written;
+
+// The frame that some bytes begin with: its type, the body's length and the length of the frame; zeros where it is refused.
+#[repr(C)]
+pub struct FrameAnswer {
+    pub answer: u32,
+    pub kind: u32,
+    pub len: usize,
+    pub total: usize,
+}
+
+#[no_mangle]
+pub extern "C" fn orizhgum_frame(bytes: &[u8]) -> FrameAnswer
+    ensures { λ r. ⌜ r ≡ frameAnswer (framing headerWidth bodyLimit (now (bytes .entry))) ⌝ }
+{
+    match frame::read(bytes) {
+        Framed::Whole(f) => FrameAnswer {
+            answer: 0,
+            kind: f.kind,
+            len: f.len,
+            total: f.total,
+        },
+        Framed::Refused(why) => FrameAnswer {
+            answer: frame::number(why),
+            kind: 0,
+            len: 0,
+            total: 0,
+        },
+    }
+}

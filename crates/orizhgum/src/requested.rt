@@ -1,0 +1,61 @@
+// The request: the frame that asks for a channel's first run, to the start of a lent output. The tracker's arrays stay as they are.
+ghost use mathlib.Core.Path.{_≡_};
+ghost use Rattle.tracker.specs.Request.{answering, leaving};
+ghost use Rattle.orizhgum.specs.Arrivals.{heldIn};
+ghost use Rattle.orizhgum.specs.Requested.{requestAnswer};
+use crate::answers::NOTHING_MISSING;
+use crate::answers::PLAIN;
+use crate::written::WriteAnswer;
+use seats::Seat;
+use tracker::Requested;
+use tracker::Tracker;
+use tracker::request_in;
+
+#[no_mangle]
+pub extern "C" fn orizhgum_request_in<'a>(
+    count: usize,
+    numbers: &'a [u16; Tracker::CHANNELS],
+    highest: &'a [u64; Tracker::CHANNELS],
+    ended: &'a [u8; Tracker::CHANNELS],
+    counts: &'a [usize; Tracker::CHANNELS],
+    first: &'a [u64; Seat::PLACES],
+    last: &'a [u64; Seat::PLACES],
+    channel: u16,
+    out: &mut [u8],
+) -> WriteAnswer
+    ensures { λ r. ⌜ r ≡ requestAnswer (answering (heldIn count (now (numbers .entry)) (now (highest .entry)) (now (ended .entry)) (now (counts .entry)) (now (first .entry)) (now (last .entry))) channel (now (out .entry))) ⌝ }
+    ensures { λ r. ⌜ now (out .exit) ≡ leaving (heldIn count (now (numbers .entry)) (now (highest .entry)) (now (ended .entry)) (now (counts .entry)) (now (first .entry)) (now (last .entry))) channel (now (out .entry)) ⌝ }
+{
+    match request_in(
+        count,
+        numbers,
+        highest,
+        ended,
+        counts,
+        first,
+        last,
+        channel,
+        out,
+    ) {
+        Requested::Written(n) => WriteAnswer {
+            answer: PLAIN,
+            written: n,
+        },
+        Requested::NothingMissing => WriteAnswer {
+            answer: NOTHING_MISSING,
+            written: 0,
+        },
+        Requested::Malformed => WriteAnswer {
+            answer: 10,
+            written: 0,
+        },
+        Requested::NotInTracker => WriteAnswer {
+            answer: 7,
+            written: 0,
+        },
+        Requested::OutputShort => WriteAnswer {
+            answer: 6,
+            written: 0,
+        },
+    }
+}

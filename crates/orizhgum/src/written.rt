@@ -1,0 +1,182 @@
+// The writer: the frame of a record, its texts and its groups in wire layout, to the start of a lent output. A type that has no texts or no groups takes none.
+ghost use mathlib.Core.Path.{_≡_};
+ghost use Rattle.record.specs.Paper.{paperRecord};
+ghost use Rattle.record.specs.declared.Record.the-variants as is;
+ghost use Rattle.writer.specs.Paper as writer_paper;
+ghost use Rattle.writer.specs.Write.{answering, leaving};
+ghost use Rattle.orizhgum.specs.Written.{writeAnswer};
+use crate::answers::PLAIN;
+use record::ChannelHeartbeat;
+use record::Index;
+use record::Order;
+use record::Resend;
+use record::SecurityStatus;
+use record::Snapshot;
+use record::Statistics;
+use record::Trade;
+use record::VolumeIndex;
+use writer::Refusal;
+use writer::Written;
+
+// How many bytes were written; 0 where it is refused, and the output is as it stood.
+#[repr(C)]
+pub struct WriteAnswer {
+    pub answer: u32,
+    pub written: usize,
+}
+
+// The paper's number of a writer's refusal.
+fn refusal_number(x: Refusal) -> u32
+    ensures { λ r. ⌜ r ≡ writer_paper.number x ⌝ }
+{
+    match x {
+        Refusal::NotItsLayout => 4,
+        Refusal::OutOfRange => 5,
+        Refusal::TooLong => 2,
+        Refusal::OutputShort => 6,
+    }
+}
+
+fn answer_of(written: Written) -> WriteAnswer
+    ensures { λ r. ⌜ r ≡ writeAnswer (writer_paper.paper written) ⌝ }
+{
+    match written {
+        Written::Whole(n) => WriteAnswer {
+            answer: PLAIN,
+            written: n,
+        },
+        Written::Refused(x) => WriteAnswer {
+            answer: refusal_number(x),
+            written: 0,
+        },
+    }
+}
+
+#[no_mangle]
+pub extern "C" fn orizhgum_write_order(
+    numbers: Order,
+    texts: &[u8],
+    groups: &[u8],
+    out: &mut [u8],
+) -> WriteAnswer
+    ensures { λ r. ⌜ r ≡ writeAnswer (answering (paperRecord (is.Order numbers)) (now (texts .entry)) (now (groups .entry)) (now (out .entry))) ⌝ }
+    ensures { λ r. ⌜ now (out .exit) ≡ leaving (paperRecord (is.Order numbers)) (now (texts .entry)) (now (groups .entry)) (now (out .entry)) ⌝ }
+{
+    answer_of(writer::write_order(numbers, texts, groups, out))
+}
+
+#[no_mangle]
+pub extern "C" fn orizhgum_write_trade(
+    numbers: Trade,
+    texts: &[u8],
+    groups: &[u8],
+    out: &mut [u8],
+) -> WriteAnswer
+    ensures { λ r. ⌜ r ≡ writeAnswer (answering (paperRecord (is.Trade numbers)) (now (texts .entry)) (now (groups .entry)) (now (out .entry))) ⌝ }
+    ensures { λ r. ⌜ now (out .exit) ≡ leaving (paperRecord (is.Trade numbers)) (now (texts .entry)) (now (groups .entry)) (now (out .entry)) ⌝ }
+{
+    answer_of(writer::write_trade(numbers, texts, groups, out))
+}
+
+#[no_mangle]
+pub extern "C" fn orizhgum_write_channel_heartbeat(
+    numbers: ChannelHeartbeat,
+    texts: &[u8],
+    groups: &[u8],
+    out: &mut [u8],
+) -> WriteAnswer
+    ensures { λ r. ⌜ r ≡ writeAnswer (answering (paperRecord (is.ChannelHeartbeat numbers)) (now (texts .entry)) (now (groups .entry)) (now (out .entry))) ⌝ }
+    ensures { λ r. ⌜ now (out .exit) ≡ leaving (paperRecord (is.ChannelHeartbeat numbers)) (now (texts .entry)) (now (groups .entry)) (now (out .entry)) ⌝ }
+{
+    answer_of(writer::write_channel_heartbeat(numbers, texts, groups, out))
+}
+
+#[no_mangle]
+pub extern "C" fn orizhgum_write_resend(
+    numbers: Resend,
+    texts: &[u8],
+    groups: &[u8],
+    out: &mut [u8],
+) -> WriteAnswer
+    ensures { λ r. ⌜ r ≡ writeAnswer (answering (paperRecord (is.Resend numbers)) (now (texts .entry)) (now (groups .entry)) (now (out .entry))) ⌝ }
+    ensures { λ r. ⌜ now (out .exit) ≡ leaving (paperRecord (is.Resend numbers)) (now (texts .entry)) (now (groups .entry)) (now (out .entry)) ⌝ }
+{
+    answer_of(writer::write_resend(numbers, texts, groups, out))
+}
+
+#[no_mangle]
+pub extern "C" fn orizhgum_write_snapshot(
+    numbers: Snapshot,
+    texts: &[u8],
+    groups: &[u8],
+    out: &mut [u8],
+) -> WriteAnswer
+    ensures { λ r. ⌜ r ≡ writeAnswer (answering (paperRecord (is.Snapshot numbers)) (now (texts .entry)) (now (groups .entry)) (now (out .entry))) ⌝ }
+    ensures { λ r. ⌜ now (out .exit) ≡ leaving (paperRecord (is.Snapshot numbers)) (now (texts .entry)) (now (groups .entry)) (now (out .entry)) ⌝ }
+{
+    answer_of(writer::write_snapshot(numbers, texts, groups, out))
+}
+
+#[no_mangle]
+pub extern "C" fn orizhgum_write_index(
+    numbers: Index,
+    texts: &[u8],
+    groups: &[u8],
+    out: &mut [u8],
+) -> WriteAnswer
+    ensures { λ r. ⌜ r ≡ writeAnswer (answering (paperRecord (is.Index numbers)) (now (texts .entry)) (now (groups .entry)) (now (out .entry))) ⌝ }
+    ensures { λ r. ⌜ now (out .exit) ≡ leaving (paperRecord (is.Index numbers)) (now (texts .entry)) (now (groups .entry)) (now (out .entry)) ⌝ }
+{
+    answer_of(writer::write_index(numbers, texts, groups, out))
+}
+
+#[no_mangle]
+pub extern "C" fn orizhgum_write_volume_index(
+    numbers: VolumeIndex,
+    texts: &[u8],
+    groups: &[u8],
+    out: &mut [u8],
+) -> WriteAnswer
+    ensures { λ r. ⌜ r ≡ writeAnswer (answering (paperRecord (is.VolumeIndex numbers)) (now (texts .entry)) (now (groups .entry)) (now (out .entry))) ⌝ }
+    ensures { λ r. ⌜ now (out .exit) ≡ leaving (paperRecord (is.VolumeIndex numbers)) (now (texts .entry)) (now (groups .entry)) (now (out .entry)) ⌝ }
+{
+    answer_of(writer::write_volume_index(numbers, texts, groups, out))
+}
+
+#[no_mangle]
+pub extern "C" fn orizhgum_write_statistics(
+    numbers: Statistics,
+    texts: &[u8],
+    groups: &[u8],
+    out: &mut [u8],
+) -> WriteAnswer
+    ensures { λ r. ⌜ r ≡ writeAnswer (answering (paperRecord (is.Statistics numbers)) (now (texts .entry)) (now (groups .entry)) (now (out .entry))) ⌝ }
+    ensures { λ r. ⌜ now (out .exit) ≡ leaving (paperRecord (is.Statistics numbers)) (now (texts .entry)) (now (groups .entry)) (now (out .entry)) ⌝ }
+{
+    answer_of(writer::write_statistics(numbers, texts, groups, out))
+}
+
+#[no_mangle]
+pub extern "C" fn orizhgum_write_security_status(
+    numbers: SecurityStatus,
+    texts: &[u8],
+    groups: &[u8],
+    out: &mut [u8],
+) -> WriteAnswer
+    ensures { λ r. ⌜ r ≡ writeAnswer (answering (paperRecord (is.SecurityStatus numbers)) (now (texts .entry)) (now (groups .entry)) (now (out .entry))) ⌝ }
+    ensures { λ r. ⌜ now (out .exit) ≡ leaving (paperRecord (is.SecurityStatus numbers)) (now (texts .entry)) (now (groups .entry)) (now (out .entry)) ⌝ }
+{
+    answer_of(writer::write_security_status(numbers, texts, groups, out))
+}
+
+#[no_mangle]
+pub extern "C" fn orizhgum_write_heartbeat(
+    texts: &[u8],
+    groups: &[u8],
+    out: &mut [u8],
+) -> WriteAnswer
+    ensures { λ r. ⌜ r ≡ writeAnswer (answering (paperRecord is.Heartbeat) (now (texts .entry)) (now (groups .entry)) (now (out .entry))) ⌝ }
+    ensures { λ r. ⌜ now (out .exit) ≡ leaving (paperRecord is.Heartbeat) (now (texts .entry)) (now (groups .entry)) (now (out .entry)) ⌝ }
+{
+    answer_of(writer::write_heartbeat(texts, groups, out))
+}
