@@ -21,15 +21,15 @@ extern "C" {
 
 enum {
     ORIZHGUM_OK = 0,
-    ORIZHGUM_SHORT = 1,            /* fewer than 8 bytes, or fewer than the frame has */
+    ORIZHGUM_TOO_SHORT = 1,        /* fewer than 8 bytes, or fewer than the frame has */
     ORIZHGUM_TOO_LONG = 2,         /* a body above 16,384 bytes */
-    ORIZHGUM_CHECKSUM = 3,         /* the checksum differs */
+    ORIZHGUM_WRONG_SUM = 3,        /* the checksum differs */
     ORIZHGUM_NOT_ITS_LAYOUT = 4,   /* the body lacks bytes; in the writer, texts or groups that are not the stated fields */
     ORIZHGUM_OUT_OF_RANGE = 5,     /* a field out of range */
     ORIZHGUM_OUTPUT_SHORT = 6,     /* the output is too short */
-    ORIZHGUM_NO_CHANNEL = 7,       /* the channel is not in the tracker */
+    ORIZHGUM_NO_SUCH_CHANNEL = 7,  /* the channel is not in the tracker */
     ORIZHGUM_NUMBER_TOO_LOW = 8,   /* a tick number below 1, or a last number below 0 */
-    ORIZHGUM_FULL = 9,             /* the next state would need a 33rd run */
+    ORIZHGUM_TABLE_FULL = 9,       /* the next state would need a 33rd run */
     ORIZHGUM_MALFORMED = 10,       /* a list of channels, or a tracker, that breaks the rules */
     ORIZHGUM_UNKNOWN = 100,        /* a type that is not listed */
     ORIZHGUM_NO_SUCH_ENTRY = 101,  /* a position not below the count */

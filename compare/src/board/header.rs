@@ -463,15 +463,15 @@ macro_rules! numbered {
 pub fn numbers() -> String {
     let refusals = [
         "OK",
-        "SHORT",
+        "TOO_SHORT",
         "TOO_LONG",
-        "CHECKSUM",
+        "WRONG_SUM",
         "NOT_ITS_LAYOUT",
         "OUT_OF_RANGE",
         "OUTPUT_SHORT",
-        "NO_CHANNEL",
+        "NO_SUCH_CHANNEL",
         "NUMBER_TOO_LOW",
-        "FULL",
+        "TABLE_FULL",
         "MALFORMED",
     ];
     let lines = refusals.iter().enumerate();

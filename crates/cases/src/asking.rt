@@ -48,7 +48,7 @@ fn said(answer: Requested) -> Said {
         Requested::Written(n) => said::written(n),
         Requested::NothingMissing => said::plain(4),
         Requested::Malformed => said::refused(10),
-        Requested::NotInTracker => said::refused(7),
+        Requested::NoSuchChannel => said::refused(7),
         Requested::OutputShort => said::refused(6),
     }
 }

@@ -14,9 +14,9 @@ fn said(v: Verdict) -> Said {
         Verdict::Late => said::plain(1),
         Verdict::Duplicate => said::plain(2),
         Verdict::Heard => said::plain(3),
-        Verdict::NotInTracker => said::refused(7),
-        Verdict::BelowRange => said::refused(8),
-        Verdict::Full => said::refused(9),
+        Verdict::NoSuchChannel => said::refused(7),
+        Verdict::NumberTooLow => said::refused(8),
+        Verdict::TableFull => said::refused(9),
         Verdict::Malformed => said::refused(10),
     }
 }

@@ -29,9 +29,9 @@ fn verdict_number(verdict: Verdict) -> u32
         Verdict::Late => LATE,
         Verdict::Duplicate => DUPLICATE,
         Verdict::Heard => PLAIN,
-        Verdict::NotInTracker => 7,
-        Verdict::BelowRange => 8,
-        Verdict::Full => 9,
+        Verdict::NoSuchChannel => 7,
+        Verdict::NumberTooLow => 8,
+        Verdict::TableFull => 9,
         Verdict::Malformed => 10,
     }
 }

@@ -49,7 +49,7 @@ pub extern "C" fn orizhgum_request_in<'a>(
             answer: 10,
             written: 0,
         },
-        Requested::NotInTracker => WriteAnswer {
+        Requested::NoSuchChannel => WriteAnswer {
             answer: 7,
             written: 0,
         },

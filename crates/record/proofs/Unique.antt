@@ -163,9 +163,9 @@ one-reading a b e =
 
 code-frame-refusal : ℕ → frame-answer.FrameAnswer
 code-frame-refusal x =
-    cond (eqb x tooShort) (frame-answer.the-variants.Frame frame-refusal.the-variants.Short)
+    cond (eqb x tooShort) (frame-answer.the-variants.Frame frame-refusal.the-variants.TooShort)
     (cond (eqb x tooLong) (frame-answer.the-variants.Frame frame-refusal.the-variants.TooLong)
-    (cond (eqb x wrongSum) (frame-answer.the-variants.Frame frame-refusal.the-variants.Checksum)
+    (cond (eqb x wrongSum) (frame-answer.the-variants.Frame frame-refusal.the-variants.WrongSum)
     (frame-answer.the-variants.Body (code-refusal x))))
 
 code-frame-of : Answer record-of.Reading → frame-answer.FrameAnswer
@@ -175,9 +175,9 @@ code-frame-of (refused x vs) = code-frame-refusal x
 back-frame : (a : frame-answer.FrameAnswer) → code-frame-of (frameAnswer a) ≡ a
 unfolding code-frame-of code-frame-refusal
 back-frame (frame-answer.the-variants.Read r) = ap frame-answer.the-variants.Read (back-record r)
-back-frame (frame-answer.the-variants.Frame frame-refusal.the-variants.Short) = refl
+back-frame (frame-answer.the-variants.Frame frame-refusal.the-variants.TooShort) = refl
 back-frame (frame-answer.the-variants.Frame frame-refusal.the-variants.TooLong) = refl
-back-frame (frame-answer.the-variants.Frame frame-refusal.the-variants.Checksum) = refl
+back-frame (frame-answer.the-variants.Frame frame-refusal.the-variants.WrongSum) = refl
 back-frame (frame-answer.the-variants.Body NotItsLayout) = refl
 back-frame (frame-answer.the-variants.Body OutOfRange) = refl
 

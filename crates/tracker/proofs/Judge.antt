@@ -25,7 +25,7 @@ use Rattle.tracker.specs.declared.Tracker.{Tracker}
 use Rattle.rows.specs.declared.Gap.{Gap}
 use Rattle.tracker.specs.Places.{mark, channel, put}
 use Rattle.seats.specs.declared.Seat.{Seat}
-use Rattle.tracker.specs.declared.Verdict.the-variants.{NotInTracker, BelowRange, Malformed}
+use Rattle.tracker.specs.declared.Verdict.the-variants.{NoSuchChannel, NumberTooLow, Malformed}
 use Rattle.tracker.specs.declared.Verdict.{Verdict}
 use Rattle.tracker.specs.declared.Judged.{Judged}
 use Rattle.tracker.specs.declared.Judged.the-variants.{Refused, At}
@@ -329,10 +329,10 @@ module _ (t : Tracker) (k : ℕ) (low : Bool) (s : Seat) (q : s ≡ seatIn t k) 
     well : wellFormed t ≡ true
     well = seat-sound t k s q ∙ p
 
-    pub judges-7 : t .count ≤ s .at → Judges t k low (Refused NotInTracker)
+    pub judges-7 : t .count ≤ s .at → Judges t k low (Refused NoSuchChannel)
     judges-7 h = λ e z. arrived-7 t k e well (rw (seat-place t k s q well) h)
 
-    pub judges-8 : s .at < t .count → low ≡ true → Judges t k low (Refused BelowRange)
+    pub judges-8 : s .at < t .count → low ≡ true → Judges t k low (Refused NumberTooLow)
     judges-8 h l = λ e z. arrived-at t k e well (rw (seat-place t k s q well) h) ∙ settled-low t (place t k) (channel t (place t k)) e (z ∙ l)
 
     pub judges-at : s .at < t .count → low ≡ false → Judges t k low (At (s .at))

@@ -9,7 +9,7 @@ use Rattle.wire.specs.Refusal.{outputShort, noSuchChannel, numberTooLow, tableF
 use Rattle.gaps.specs.Channel.{Said, new, late, duplicate, heard}
 use Rattle.tracker.specs.declared.Tracker.{Tracker}
 use Rattle.tracker.specs.declared.Verdict.{Verdict}
-use Rattle.tracker.specs.declared.Verdict.the-variants.{New, Late, Duplicate, Heard, NotInTracker, BelowRange, Full, Malformed}
+use Rattle.tracker.specs.declared.Verdict.the-variants.{New, Late, Duplicate, Heard, NoSuchChannel, NumberTooLow, TableFull, Malformed}
 use Rattle.tracker.specs.declared.Reply.{Reply}
 use Rattle.tracker.specs.declared.Start.{Start}
 use Rattle.tracker.specs.declared.Start.the-variants.{SetUp, Malformed as Refused}
@@ -26,7 +26,7 @@ named (accepted new) = New
 named (accepted late) = Late
 named (accepted duplicate) = Duplicate
 named (accepted heard) = Heard
-named (refused n v) = cond (eqb n noSuchChannel) NotInTracker (cond (eqb n numberTooLow) BelowRange (cond (eqb n tableFull) Full Malformed))
+named (refused n v) = cond (eqb n noSuchChannel) NoSuchChannel (cond (eqb n numberTooLow) NumberTooLow (cond (eqb n tableFull) TableFull Malformed))
 
 named-said : (v : Verdict) → named (saidOf v) ≡ v
 unfolding named
@@ -34,9 +34,9 @@ named-said New = refl
 named-said Late = refl
 named-said Duplicate = refl
 named-said Heard = refl
-named-said NotInTracker = refl
-named-said BelowRange = refl
-named-said Full = refl
+named-said NoSuchChannel = refl
+named-said NumberTooLow = refl
+named-said TableFull = refl
 named-said Malformed = refl
 
 abbrev replyOf : Verdict → Tracker → Reply
@@ -73,14 +73,14 @@ one-set-up numbers r s p q =
 requestedOf : Answer request.Said → Requested
 requestedOf (accepted (request.written n)) = asked.Written n
 requestedOf (accepted request.nothing) = asked.NothingMissing
-requestedOf (refused n v) = cond (eqb n noSuchChannel) asked.NotInTracker (cond (eqb n outputShort) asked.OutputShort asked.Malformed)
+requestedOf (refused n v) = cond (eqb n noSuchChannel) asked.NoSuchChannel (cond (eqb n outputShort) asked.OutputShort asked.Malformed)
 
 requested-of : (x : Requested) → requestedOf (request.paper x) ≡ x
 unfolding requestedOf
 requested-of (asked.Written n) = refl
 requested-of asked.NothingMissing = refl
 requested-of asked.Malformed = refl
-requested-of asked.NotInTracker = refl
+requested-of asked.NoSuchChannel = refl
 requested-of asked.OutputShort = refl
 
 -- an answer and an output that meet the request's promise

@@ -10,7 +10,7 @@ use Rattle.gaps.specs.Channel.{Event, Said, new, late, duplicate, heard, Step, 
 use Rattle.seats.specs.Seat.{placeFrom}
 use Rattle.tracker.specs.declared.Tracker.{Tracker}
 use Rattle.tracker.specs.declared.Verdict.{Verdict}
-use Rattle.tracker.specs.declared.Verdict.the-variants.{New, Late, Duplicate, Heard, NotInTracker, BelowRange, Full, Malformed}
+use Rattle.tracker.specs.declared.Verdict.the-variants.{New, Late, Duplicate, Heard, NoSuchChannel, NumberTooLow, TableFull, Malformed}
 use Rattle.tracker.specs.declared.Reply.{Reply}
 use Rattle.tracker.specs.Places.{channel, put}
 use Rattle.tracker.specs.Rules.{wellFormed}
@@ -52,9 +52,9 @@ saidOf New = accepted new
 saidOf Late = accepted late
 saidOf Duplicate = accepted duplicate
 saidOf Heard = accepted heard
-saidOf NotInTracker = refused noSuchChannel []
-saidOf BelowRange = refused numberTooLow []
-saidOf Full = refused tableFull []
+saidOf NoSuchChannel = refused noSuchChannel []
+saidOf NumberTooLow = refused numberTooLow []
+saidOf TableFull = refused tableFull []
 saidOf Malformed = refused malformed []
 
 -- what an answer says on paper, with the next tracker

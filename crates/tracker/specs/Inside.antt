@@ -58,7 +58,7 @@ stored t i a highest ended runs =
 abbrev pub lostOf : Wanted → Answer Lost
 lostOf (wanted.First r) = accepted (lost r)
 lostOf wanted.NothingMissing = accepted nothingMissing
-lostOf wanted.NotInTracker = refused noSuchChannel []
+lostOf wanted.NoSuchChannel = refused noSuchChannel []
 lostOf wanted.Malformed = refused malformed []
 
 -- whatever the count of channels and their numbers: 9, or the record whose numbers behind the highest, up to m, are missing

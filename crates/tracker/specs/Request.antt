@@ -19,7 +19,7 @@ use Rattle.gaps.specs.Gaps.{run}
 use Rattle.tracker.specs.declared.Tracker.{Tracker}
 use Rattle.tracker.specs.FirstRun.{Lost, lost, nothingMissing, firstRun}
 use Rattle.tracker.specs.declared.Requested.{Requested}
-use Rattle.tracker.specs.declared.Requested.the-variants.{Written, NothingMissing, Malformed, NotInTracker, OutputShort}
+use Rattle.tracker.specs.declared.Requested.the-variants.{Written, NothingMissing, Malformed, NoSuchChannel, OutputShort}
 
 -- ---- which numbers it asks for
 
@@ -112,5 +112,5 @@ abbrev pub paper : Requested → Answer Said
 paper (Written n) = accepted (written n)
 paper NothingMissing = accepted nothing
 paper Malformed = refused malformed []
-paper NotInTracker = refused noSuchChannel []
+paper NoSuchChannel = refused noSuchChannel []
 paper OutputShort = refused outputShort []

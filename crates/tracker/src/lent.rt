@@ -86,7 +86,7 @@ pub fn tick_in(
                 }
                 Held::Inside(p) => {
                     if runs == Runs::LIMIT {
-                        return Verdict::Full;
+                        return Verdict::TableFull;
                     }
                     split(at, p, n, counts, first, last);
                     return Verdict::Late;
@@ -168,7 +168,7 @@ fn raise(
     let before = highest[at];
     let gap = room(first, last, at, held, before);
     if gap.full {
-        return Verdict::Full;
+        return Verdict::TableFull;
     }
     let j = gap.at;
     let p = at * Runs::LIMIT + j;

@@ -48,9 +48,9 @@ pub enum Verdict {
     Late,
     Duplicate,
     Heard,
-    NotInTracker,
-    BelowRange,
-    Full,
+    NoSuchChannel,
+    NumberTooLow,
+    TableFull,
     Malformed,
 }
 
@@ -65,7 +65,7 @@ pub enum Requested {
     Written(usize),
     NothingMissing,
     Malformed,
-    NotInTracker,
+    NoSuchChannel,
     OutputShort,
 }
 
@@ -78,7 +78,7 @@ impl Requested {
 enum Wanted {
     First(Run),
     NothingMissing,
-    NotInTracker,
+    NoSuchChannel,
     Malformed,
 }
 

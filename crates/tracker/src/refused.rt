@@ -25,10 +25,10 @@ pub(crate) fn judge<'a>(
     }
     let at = seat.at;
     if count <= at {
-        return Judged::Refused(Verdict::NotInTracker);
+        return Judged::Refused(Verdict::NoSuchChannel);
     }
     if low {
-        return Judged::Refused(Verdict::BelowRange);
+        return Judged::Refused(Verdict::NumberTooLow);
     }
     Judged::At(at)
 }

@@ -36,7 +36,7 @@ fn first_run<'a>(
     }
     let at = seat.at;
     if count <= at {
-        return Wanted::NotInTracker;
+        return Wanted::NoSuchChannel;
     }
     if counts[at] == 0 {
         return Wanted::NothingMissing;
@@ -67,7 +67,7 @@ pub fn request_in<'a>(
     match wanted {
         Wanted::First(run) => ask(channel, run, out),
         Wanted::NothingMissing => Requested::NothingMissing,
-        Wanted::NotInTracker => Requested::NotInTracker,
+        Wanted::NoSuchChannel => Requested::NoSuchChannel,
         Wanted::Malformed => Requested::Malformed,
     }
 }
