@@ -2,7 +2,6 @@
 -- Assumes nothing.
 use Prim.Native.Nat.{ℕ}
 use mathlib.Core.Bool.{Bool, not}
-use mathlib.Core.List.{List}
 use lib.Dec.{eqb}
 use Rattle.wire.specs.Answer.{Answer, accepted, refused}
 use Rattle.gaps.specs.Channel.{Said, new, late, duplicate, heard}
@@ -28,19 +27,13 @@ startAnswer r = record { answer = answerNumber (r .said); tracker = r .tracker }
 abbrev pub ending : ℕ → Bool
 ending e = not (eqb e 0)
 
--- the tracker that these arrays hold
-abbrev pub heldIn : ℕ → List ℕ → List ℕ → List ℕ → List ℕ → List ℕ → List ℕ → Tracker
-heldIn count numbers highest ended counts first last =
-    record { count = count; numbers = numbers; highest = highest; ended = ended; counts = counts; first = first; last = last }
-
 -- an arrival's answer, and the next tracker
 pub record Arrived : Type 0 where
   pub answer : ℕ
   pub next : Tracker
 
-abbrev pub left : ℕ → ℕ → List ℕ → List ℕ → List ℕ → List ℕ → List ℕ → List ℕ → Arrived
-left answer count numbers highest ended counts first last =
-    record { answer = answer; next = heldIn count numbers highest ended counts first last }
+abbrev pub replied : ℕ → Tracker → Arrived
+replied answer t = record { answer = answer; next = t }
 
 abbrev pub arrivalAnswer : Outcome → Arrived
-arrivalAnswer o = record { answer = saidNumber (o .said); next = o .next }
+arrivalAnswer o = replied (saidNumber (o .said)) (o .next)

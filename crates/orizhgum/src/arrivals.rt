@@ -1,9 +1,11 @@
 // The tracker: set up, and the tick and channel heartbeat over its arrays, which become those of the next one.
 ghost use mathlib.Core.Path.{_≡_};
 ghost use Rattle.gaps.specs.Channel.{tick, heartbeat};
+ghost use Rattle.seats.specs.Arrays.{found, left};
+ghost use Rattle.tracker.specs.Places.{made};
 ghost use Rattle.tracker.specs.SetUp.{setUp};
 ghost use Rattle.tracker.specs.Arrived.{on, arrived, saidOf};
-ghost use Rattle.orizhgum.specs.Arrivals.{saidNumber, startAnswer, ending, heldIn, left, arrivalAnswer};
+ghost use Rattle.orizhgum.specs.Arrivals.{saidNumber, startAnswer, ending, replied, arrivalAnswer};
 use crate::answers::DUPLICATE;
 use crate::answers::LATE;
 use crate::answers::PLAIN;
@@ -69,7 +71,7 @@ pub extern "C" fn orizhgum_tick_in(
     channel: u16,
     number: i64,
 ) -> u32
-    ensures { λ r. ⌜ left r count (now (numbers .entry)) (now (highest .exit)) (now (ended .exit)) (now (counts .exit)) (now (first .exit)) (now (last .exit)) ≡ arrivalAnswer (arrived (heldIn count (now (numbers .entry)) (now (highest .entry)) (now (ended .entry)) (now (counts .entry)) (now (first .entry)) (now (last .entry))) (on channel (tick number))) ⌝ }
+    ensures { λ r. ⌜ replied r (made (left count numbers highest ended counts first last)) ≡ arrivalAnswer (arrived (made (found count numbers highest ended counts first last)) (on channel (tick number))) ⌝ }
 {
     verdict_number(tick_in(
         count,
@@ -98,7 +100,7 @@ pub extern "C" fn orizhgum_heartbeat_in(
     last_number: i64,
     end: u8,
 ) -> u32
-    ensures { λ r. ⌜ left r count (now (numbers .entry)) (now (highest .exit)) (now (ended .exit)) (now (counts .exit)) (now (first .exit)) (now (last .exit)) ≡ arrivalAnswer (arrived (heldIn count (now (numbers .entry)) (now (highest .entry)) (now (ended .entry)) (now (counts .entry)) (now (first .entry)) (now (last .entry))) (on channel (heartbeat «last_number» (ending end)))) ⌝ }
+    ensures { λ r. ⌜ replied r (made (left count numbers highest ended counts first last)) ≡ arrivalAnswer (arrived (made (found count numbers highest ended counts first last)) (on channel (heartbeat «last_number» (ending end)))) ⌝ }
 {
     verdict_number(heartbeat_in(
         count,

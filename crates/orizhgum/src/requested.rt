@@ -1,7 +1,8 @@
 // The request: the frame that asks for a channel's first run, to the start of a lent output. The tracker's arrays stay as they are.
 ghost use mathlib.Core.Path.{_≡_};
+ghost use Rattle.seats.specs.Arrays.{found};
+ghost use Rattle.tracker.specs.Places.{made};
 ghost use Rattle.tracker.specs.Request.{answering, leaving};
-ghost use Rattle.orizhgum.specs.Arrivals.{heldIn};
 ghost use Rattle.orizhgum.specs.Requested.{requestAnswer};
 use crate::answers::NOTHING_MISSING;
 use crate::answers::PLAIN;
@@ -23,8 +24,8 @@ pub extern "C" fn orizhgum_request_in<'a>(
     channel: u16,
     out: &mut [u8],
 ) -> WriteAnswer
-    ensures { λ r. ⌜ r ≡ requestAnswer (answering (heldIn count (now (numbers .entry)) (now (highest .entry)) (now (ended .entry)) (now (counts .entry)) (now (first .entry)) (now (last .entry))) channel (now (out .entry))) ⌝ }
-    ensures { λ r. ⌜ now (out .exit) ≡ leaving (heldIn count (now (numbers .entry)) (now (highest .entry)) (now (ended .entry)) (now (counts .entry)) (now (first .entry)) (now (last .entry))) channel (now (out .entry)) ⌝ }
+    ensures { λ r. ⌜ r ≡ requestAnswer (answering (made (found count numbers highest ended counts first last)) channel (now (out .entry))) ⌝ }
+    ensures { λ r. ⌜ now (out .exit) ≡ leaving (made (found count numbers highest ended counts first last)) channel (now (out .entry)) ⌝ }
 {
     match request_in(
         count,

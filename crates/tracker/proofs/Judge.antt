@@ -23,8 +23,9 @@ use Rattle.gaps.proofs.Exact.{ticked-new, ticked-late, ticked-again}
 use Rattle.gaps.proofs.Alone.{judged-low}
 use Rattle.tracker.specs.declared.Tracker.{Tracker}
 use Rattle.rows.specs.declared.Gap.{Gap}
-use Rattle.tracker.specs.Places.{mark, channel, put}
+use Rattle.tracker.specs.Places.{made, mark, channel, put}
 use Rattle.seats.specs.declared.Seat.{Seat}
+use Rattle.seats.specs.Arrays.{arrays}
 use Rattle.tracker.specs.declared.Verdict.the-variants.{NoSuchChannel, NumberTooLow, Malformed}
 use Rattle.tracker.specs.declared.Verdict.{Verdict}
 use Rattle.tracker.specs.declared.Judged.{Judged}
@@ -34,7 +35,7 @@ use Rattle.tracker.specs.Arrived.{Outcome, on, place, settled, arrived, 
 use Rattle.rows.specs.declared.Held.{Held}
 use Rattle.rows.specs.declared.Held.the-variants.{No, AtEnd, Alone, Inside}
 use Rattle.rows.specs.Held.{leftAt}
-use Rattle.tracker.specs.Inside.{made, Kept, Judges, stored}
+use Rattle.tracker.specs.Inside.{Kept, Judges, stored}
 use Rattle.tracker.proofs.Told.{Room, Finds, finds-no, finds-run}
 use Rattle.tracker.proofs.Row.{span-length, span-at}
 use Rattle.tracker.proofs.Hold.{held-at}
@@ -313,8 +314,8 @@ behind t i n w a p h s (finds-run j m f g) =
 
 -- what is left in lent arrays
 pub laid-as : (v : Verdict) (k : ℕ) (ns h e : List ℕ) {c c′ f f′ l l′ : List ℕ} → c ≡ c′ → f ≡ f′ → l ≡ l′ →
-    answered v (made k ns h e c f l) ≡ answered v (made k ns h e c′ f′ l′)
-laid-as v k ns h e p q r = λ m. answered v (made k ns h e (p m) (q m) (r m))
+    answered v (made (arrays k ns h e c f l)) ≡ answered v (made (arrays k ns h e c′ f′ l′))
+laid-as v k ns h e p q r = λ m. answered v (made (arrays k ns h e (p m) (q m) (r m)))
 
 pub told-behind : (t : Tracker) (i n : ℕ) (x s : Held) → Behind t i n s → s ≡ x → Behind t i n x
 told-behind t i n x s w e = rw e at w
@@ -351,7 +352,7 @@ module _ (t : Tracker) (k : ℕ) (low : Bool) where
 -- ---- from a place to its judgement, for numbers as the code holds them
 
 -- whatever the count of channels and their numbers
-pub kept-named : (k m : ℕ) (ns ms h e c f l : List ℕ) (i : ℕ) → Kept (made k ns h e c f l) i → Kept (made m ms h e c f l) i
+pub kept-named : (k m : ℕ) (ns ms h e c f l : List ℕ) (i : ℕ) → Kept (made (arrays k ns h e c f l)) i → Kept (made (arrays m ms h e c f l)) i
 kept-named k m ns ms h e c f l i w = record { place = w .place; mark = w .mark; row = w .row }
 
 module _ (t : Tracker) (k : ℕ) (low : Bool) (i : ℕ) (w : Judges t k low (At i)) where

@@ -13,39 +13,42 @@ use Rattle.gaps.specs.Channel.{Event, judged}
 use Rattle.gaps.proofs.Numbers.{and-split}
 use Rattle.tracker.specs.declared.Tracker.{Tracker}
 use Rattle.seats.specs.declared.Seat.{Seat}
-use Rattle.tracker.specs.Places.{channel}
-use Rattle.seats.specs.Rules.{soundRow, soundRows, marks, sound}
+use Rattle.seats.specs.Arrays.{Arrays}
+use Rattle.tracker.specs.Places.{arraysOf, channel}
+use Rattle.seats.specs.Rules.{soundRow, soundRows, soundChannels, sound}
 use Rattle.tracker.specs.Rules.{wellFormed}
 use Rattle.tracker.specs.Arrived.{on, place, settled, arrived}
 use Rattle.seats.specs.Seat.{seating}
 use Rattle.tracker.specs.Inside.{Kept}
 use Rattle.seats.proofs.Heads.{marks-at, sound-count}
 
-rows-at : (ns hs cs f l : List ℕ) (lo i n j : ℕ) → soundRows ns hs cs f l lo i n ≡ true → j < n →
-    soundRow (getD hs (i + j) 0) (getD cs (i + j) 0) f l ((i + j) * 32) ≡ true
+rows-at : (a : Arrays) (lo i n j : ℕ) → soundRows a lo i n ≡ true → j < n →
+    soundRow (getD (a .highest) (i + j) 0) (getD (a .counts) (i + j) 0) (a .first) (a .last) ((i + j) * 32) ≡ true
 unfolding soundRows
-rows-at ns hs cs f l lo i zero j e h = absurd (omega arith)
-rows-at ns hs cs f l lo i (suc n) zero e h =
+rows-at a lo i zero j e h = absurd (omega arith)
+rows-at a lo i (suc n) zero e h =
     let g : i + 0 ≡ i = omega arith in
-    rw g (and-split (soundRow (getD hs i 0) (getD cs i 0) f l (i * 32)) _ (and-split (leb lo (getD ns i 0)) _ e .1) .0)
-rows-at ns hs cs f l lo i (suc n) (suc j) e h =
+    rw g (and-split (soundRow (getD (a .highest) i 0) (getD (a .counts) i 0) (a .first) (a .last) (i * 32)) _ (and-split (leb lo (getD (a .numbers) i 0)) _ e .1) .0)
+rows-at a lo i (suc n) (suc j) e h =
     let g : i + suc j ≡ suc i + j = omega arith in
-    rw g (rows-at ns hs cs f l (getD ns i 0 + 1) (suc i) n j (and-split (soundRow (getD hs i 0) (getD cs i 0) f l (i * 32)) _ (and-split (leb lo (getD ns i 0)) _ e .1) .1) (omega arith))
+    rw g (rows-at a (getD (a .numbers) i 0 + 1) (suc i) n j (and-split (soundRow (getD (a .highest) i 0) (getD (a .counts) i 0) (a .first) (a .last) (i * 32)) _ (and-split (leb lo (getD (a .numbers) i 0)) _ e .1) .1) (omega arith))
 
 module _ (t : Tracker) (e : wellFormed t ≡ true) where
   pub well-count : t .count ≤ 8
   unfolding wellFormed
-  well-count = sound-count (t .count) (t .numbers) (t .highest) (t .ended) (t .counts) (t .first) (t .last) e
+  well-count = sound-count (arraysOf t) e
 
   pub well-row : (i : ℕ) → i < t .count → Kept t i
-  unfolding wellFormed sound
+  unfolding wellFormed sound soundChannels
   well-row i h =
-      let r = and-split (soundRows (t .numbers) (t .highest) (t .counts) (t .first) (t .last) 0 0 (t .count)) _ (and-split (leb (t .count) 8) _ (and-split (not (eqb (t .count) 0)) _ e .1) .1) in
+      let a = arraysOf t in
+      let s = and-split (soundChannels a) _ (and-split (leb (t .count) 8) _ (and-split (not (eqb (t .count) 0)) _ e .1) .1) in
+      let r = and-split (soundRows a 0 0 (t .count)) _ (s .0) in
       let g : 0 + i ≡ i = omega arith in
       record {
         place = omega (arith, well-count);
-        mark = rw g at (marks-at (t .ended) 0 8 i (and-split (marks (t .ended) 0 8) _ (r .1) .0) (omega (arith, well-count)));
-        row = rw g at (rows-at (t .numbers) (t .highest) (t .counts) (t .first) (t .last) 0 0 (t .count) i (r .0) h);
+        mark = rw g at (marks-at (t .ended) 0 8 i (r .1) (omega (arith, well-count)));
+        row = rw g at (rows-at a 0 0 (t .count) i (r .0) h);
       }
 
 -- ---- the refusals in their order
@@ -66,7 +69,7 @@ module _ (t : Tracker) (k : ℕ) (e : Event) where
 -- ---- a seat
 
 abbrev pub seatIn : Tracker → ℕ → Seat
-seatIn t k = seating k (t .count) (t .numbers) (t .highest) (t .ended) (t .counts) (t .first) (t .last)
+seatIn t k = seating k (arraysOf t)
 
 module _ (t : Tracker) (k : ℕ) (s : Seat) (q : s ≡ seatIn t k) where
   pub seat-sound : wellFormed t ≡ s .sound

@@ -17,24 +17,12 @@ use Rattle.tracker.specs.declared.Wanted.the-variants as wanted
 use Rattle.tracker.specs.declared.Verdict.{Verdict}
 use Rattle.tracker.specs.declared.Judged.{Judged}
 use Rattle.tracker.specs.declared.Judged.the-variants.{Refused, At}
+use Rattle.seats.specs.Arrays.{Lent, Passed, held}
 use Rattle.seats.specs.Places.{channelLimit}
-use Rattle.tracker.specs.Places.{channel, put}
+use Rattle.tracker.specs.Places.{made, channel, put}
 use Rattle.seats.specs.Rules.{soundRow}
 use Rattle.tracker.specs.Arrived.{Outcome, on, settled, arrived, saidOf, answered}
 use Rattle.tracker.specs.FirstRun.{Lost, lost, nothingMissing}
-
--- a tracker of these fields
-abbrev pub made : ℕ → List ℕ → List ℕ → List ℕ → List ℕ → List ℕ → List ℕ → Tracker
-made count numbers highest ended counts first last =
-    record {
-      count = count;
-      numbers = numbers;
-      highest = highest;
-      ended = ended;
-      counts = counts;
-      first = first;
-      last = last;
-    }
 
 -- the channel at place i keeps the rules
 pub record Kept (t : Tracker) (i : ℕ) : Type 0 where
@@ -61,9 +49,13 @@ lostOf wanted.NothingMissing = accepted nothingMissing
 lostOf wanted.NoSuchChannel = refused noSuchChannel []
 lostOf wanted.Malformed = refused malformed []
 
--- whatever the count of channels and their numbers: 9, or the record whose numbers behind the highest, up to m, are missing
-abbrev pub Raises : Verdict → (h e c f l h′ e′ c′ f′ l′ : List ℕ) → ℕ → Answer Said → ℕ → Bool → ℕ → Type 0
-Raises r h e c f l h′ e′ c′ f′ l′ i said top mark m =
-    (k : ℕ) (ns : List ℕ) →
-    answered r (made k ns h′ e′ c′ f′ l′) ≡
-    stored (made k ns h e c f l) i said top mark (grow (channel (made k ns h e c f l) i .runs) (channel (made k ns h e c f l) i .highest) m)
+-- 9, or the record whose numbers behind the highest, up to m, are missing
+abbrev pub raising : Tracker → ℕ → Answer Said → ℕ → Bool → ℕ → Outcome
+raising t i said top mark m = stored t i said top mark (grow (channel t i .runs) (channel t i .highest) m)
+
+-- the lent arrays become those, whatever the count of channels and their numbers
+abbrev pub Raises : Verdict → (highest ended counts first last : Passed) → ℕ → Answer Said → ℕ → Bool → ℕ → Type 0
+Raises r highest ended counts first last i said top mark m =
+    (k : ℕ) (ns : Lent) →
+    answered r (made (held k ns (highest .exit) (ended .exit) (counts .exit) (first .exit) (last .exit))) ≡
+    raising (made (held k ns (highest .entry) (ended .entry) (counts .entry) (first .entry) (last .entry))) i said top mark m

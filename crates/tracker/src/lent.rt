@@ -7,8 +7,10 @@ ghost use Rattle.gaps.specs.Limits.{runLimit, mostNumber};
 ghost use Rattle.gaps.specs.Channel.{tick, heartbeat};
 ghost use Rattle.seats.specs.Places.{channelLimit, placeCount};
 ghost use Rattle.rows.specs.Shift.{closed, opened};
+ghost use Rattle.seats.specs.Arrays.{arrays, found, left};
+ghost use Rattle.tracker.specs.Places.{made};
 ghost use Rattle.tracker.specs.Arrived.{on, arrived, saidOf, answered};
-ghost use Rattle.tracker.specs.Inside.{made, Kept, Raises};
+ghost use Rattle.tracker.specs.Inside.{Kept, Raises};
 use crate::Judged;
 use crate::Tracker;
 use crate::Verdict;
@@ -33,7 +35,7 @@ pub fn tick_in(
     channel: u16,
     number: i64,
 ) -> Verdict
-    ensures { λ r. ⌜ answered r (made count (now (numbers .entry)) (now (highest .exit)) (now (ended .exit)) (now (counts .exit)) (now (first .exit)) (now (last .exit))) ≡ arrived (made count (now (numbers .entry)) (now (highest .entry)) (now (ended .entry)) (now (counts .entry)) (now (first .entry)) (now (last .entry))) (on channel (tick number)) ⌝ }
+    ensures { λ r. ⌜ answered r (made (left count numbers highest ended counts first last)) ≡ arrived (made (found count numbers highest ended counts first last)) (on channel (tick number)) ⌝ }
 {
     let n = signs::natural(number);
     let judged = judge(
@@ -109,7 +111,7 @@ pub fn heartbeat_in(
     number: i64,
     end: bool,
 ) -> Verdict
-    ensures { λ r. ⌜ answered r (made count (now (numbers .entry)) (now (highest .exit)) (now (ended .exit)) (now (counts .exit)) (now (first .exit)) (now (last .exit))) ≡ arrived (made count (now (numbers .entry)) (now (highest .entry)) (now (ended .entry)) (now (counts .entry)) (now (first .entry)) (now (last .entry))) (on channel (heartbeat number end)) ⌝ }
+    ensures { λ r. ⌜ answered r (made (left count numbers highest ended counts first last)) ≡ arrived (made (found count numbers highest ended counts first last)) (on channel (heartbeat number end)) ⌝ }
 {
     let judged = judge(
         channel,
@@ -161,8 +163,8 @@ fn raise(
     first: &mut [u64; Tracker::PLACES],
     last: &mut [u64; Tracker::PLACES],
 ) -> Verdict
-    requires { ⌜ Kept (made 0 [] (now highest) (now ended) (now counts) (now first) (now last)) at ⌝ }
-    ensures { λ r. ⌜ Raises r (now (highest .entry)) (now (ended .entry)) (now (counts .entry)) (now (first .entry)) (now (last .entry)) (now (highest .exit)) (now (ended .exit)) (now (counts .exit)) (now (first .exit)) (now (last .exit)) at (saidOf verdict) top mark m ⌝ }
+    requires { ⌜ Kept (made (arrays 0 [] (now highest) (now ended) (now counts) (now first) (now last))) at ⌝ }
+    ensures { λ r. ⌜ Raises r highest ended counts first last at (saidOf verdict) top mark m ⌝ }
 {
     let held = counts[at];
     let before = highest[at];

@@ -5,8 +5,10 @@ ghost use lib.ListN.{length};
 ghost use Rattle.gaps.specs.Limits.{mostNumber};
 ghost use Rattle.record.specs.Paper.{paperRecord};
 ghost use Rattle.record.specs.declared.Record.the-variants as variant;
+ghost use Rattle.seats.specs.Arrays.{found};
+ghost use Rattle.tracker.specs.Places.{made};
 ghost use Rattle.tracker.specs.FirstRun.{lost, firstRun};
-ghost use Rattle.tracker.specs.Inside.{made, lostOf};
+ghost use Rattle.tracker.specs.Inside.{lostOf};
 ghost use Rattle.tracker.specs.Request.{asked, resendOf, fitting, answerOf, outputOf, answering, leaving, paper};
 use crate::Requested;
 use crate::Tracker;
@@ -28,7 +30,7 @@ fn first_run<'a>(
     first: &'a [u64; Tracker::PLACES],
     last: &'a [u64; Tracker::PLACES],
 ) -> Wanted
-    ensures { λ r. ⌜ lostOf r ≡ firstRun (made count (now (numbers .entry)) (now (highest .entry)) (now (ended .entry)) (now (counts .entry)) (now (first .entry)) (now (last .entry))) channel ⌝ }
+    ensures { λ r. ⌜ lostOf r ≡ firstRun (made (found count numbers highest ended counts first last)) channel ⌝ }
 {
     let seat = seat_of(channel, count, numbers, highest, ended, counts, first, last);
     if !seat.sound {
@@ -60,8 +62,8 @@ pub fn request_in<'a>(
     channel: u16,
     out: &mut [u8],
 ) -> Requested
-    ensures { λ r. ⌜ paper r ≡ answering (made count (now (numbers .entry)) (now (highest .entry)) (now (ended .entry)) (now (counts .entry)) (now (first .entry)) (now (last .entry))) channel (now (out .entry)) ⌝ }
-    ensures { λ r. ⌜ now (out .exit) ≡ leaving (made count (now (numbers .entry)) (now (highest .entry)) (now (ended .entry)) (now (counts .entry)) (now (first .entry)) (now (last .entry))) channel (now (out .entry)) ⌝ }
+    ensures { λ r. ⌜ paper r ≡ answering (made (found count numbers highest ended counts first last)) channel (now (out .entry)) ⌝ }
+    ensures { λ r. ⌜ now (out .exit) ≡ leaving (made (found count numbers highest ended counts first last)) channel (now (out .entry)) ⌝ }
 {
     let wanted = first_run(channel, count, numbers, highest, ended, counts, first, last);
     match wanted {

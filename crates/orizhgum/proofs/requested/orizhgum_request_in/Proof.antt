@@ -1,6 +1,7 @@
 use borrow.Author.Needs.{needs}
 use Rattle.orizhgum.proofs.Lent.{meets}
-use Rattle.orizhgum.specs.Arrivals.{heldIn}
+use Rattle.seats.specs.Arrays.{held}
+use Rattle.tracker.specs.Places.{made}
 use Rattle.orizhgum.specs.Requested.{requestAnswer}
 use Rattle.orizhgum.proofs.requested.orizhgum_request_in.Statement.{statement}
 use Rattle.orizhgum.proofs.requested.orizhgum_request_in.Tie as tie
@@ -10,7 +11,7 @@ unfolding requestAnswer
 returns c =
     let r = c .before .before .before .before .before in
     let a = r .before .before .before .args in
-    meets (heldIn (a .count) (a .numbers .now) (a .highest .now) (a .ended .now) (a .counts .now) (a .first .now) (a .last .now))
+    meets (made (held (a .count) (a .numbers) (a .highest) (a .ended) (a .counts) (a .first) (a .last)))
     (a .channel) (a .out .now) (c .before .n .given .1) (r .request-in .ensures .0) (r .request-in .ensures .1)
 
 returns-2 : tie.Need-returns-2
@@ -18,7 +19,7 @@ unfolding requestAnswer
 returns-2 c =
     let r = c .before .before .before .before in
     let a = r .before .before .before .args in
-    meets (heldIn (a .count) (a .numbers .now) (a .highest .now) (a .ended .now) (a .counts .now) (a .first .now) (a .last .now))
+    meets (made (held (a .count) (a .numbers) (a .highest) (a .ended) (a .counts) (a .first) (a .last)))
     (a .channel) (a .out .now) (c .enum-told .given .1) (r .request-in .ensures .0) (r .request-in .ensures .1)
 
 returns-3 : tie.Need-returns-3
@@ -26,7 +27,7 @@ unfolding requestAnswer
 returns-3 c =
     let r = c .before .before .before .before in
     let a = r .before .before .before .args in
-    meets (heldIn (a .count) (a .numbers .now) (a .highest .now) (a .ended .now) (a .counts .now) (a .first .now) (a .last .now))
+    meets (made (held (a .count) (a .numbers) (a .highest) (a .ended) (a .counts) (a .first) (a .last)))
     (a .channel) (a .out .now) (c .enum-told2 .given .1) (r .request-in .ensures .0) (r .request-in .ensures .1)
 
 returns-4 : tie.Need-returns-4
@@ -34,7 +35,7 @@ unfolding requestAnswer
 returns-4 c =
     let r = c .before .before .before .before in
     let a = r .before .before .before .args in
-    meets (heldIn (a .count) (a .numbers .now) (a .highest .now) (a .ended .now) (a .counts .now) (a .first .now) (a .last .now))
+    meets (made (held (a .count) (a .numbers) (a .highest) (a .ended) (a .counts) (a .first) (a .last)))
     (a .channel) (a .out .now) (c .enum-told3 .given .1) (r .request-in .ensures .0) (r .request-in .ensures .1)
 
 returns-5 : tie.Need-returns-5
@@ -42,7 +43,7 @@ unfolding requestAnswer
 returns-5 c =
     let r = c .before .before .before .before in
     let a = r .before .before .before .args in
-    meets (heldIn (a .count) (a .numbers .now) (a .highest .now) (a .ended .now) (a .counts .now) (a .first .now) (a .last .now))
+    meets (made (held (a .count) (a .numbers) (a .highest) (a .ended) (a .counts) (a .first) (a .last)))
     (a .channel) (a .out .now) (c .enum-told4 .given .1) (r .request-in .ensures .0) (r .request-in .ensures .1)
 
 pub orizhgum-request-in-spec : {M : Type 1} → statement M

@@ -3,7 +3,8 @@ use mathlib.Core.List.{[]}
 use mathlib.Core.Path.{_≡_, _∙_, sym}
 use mir.Facts.{toZ-ofZ}
 use Rattle.gaps.specs.Channel.{heartbeat, natural}
-use Rattle.tracker.specs.Inside.{made}
+use Rattle.seats.specs.Arrays.{held}
+use Rattle.tracker.specs.Places.{made}
 use Rattle.tracker.proofs.Judge.{told-at, told-refused, heard-ahead, heard-behind, seat-row, heartbeat-seat, kept-named}
 use borrow.Author.Needs.{needs}
 use Rattle.tracker.proofs.lent.heartbeat_in.Statement.{statement}
@@ -14,7 +15,7 @@ element-copy-out-before c =
     let j = c .before .before .before .before in
     let k = j .before .before .before .before .before .before .before in
     let s = k .args in
-    let t = made (s .count) (s .numbers .now) (s .highest .now) (s .ended .now) (s .counts .now) (s .first .now) (s .last .now) in
+    let t = made (held (s .count) (s .numbers) (s .highest) (s .ended) (s .counts) (s .first) (s .last)) in
     let i = c .before .before .judged2 .given .0 .0 in
     let b = j .before .before .before .before .before .before .below .result in
     let w = told-at t (s .channel) b i (j .judge .result) (j .judge .ensures) (c .before .before .judged2 .given .1) in
@@ -31,7 +32,7 @@ raise-requires c κs =
     let j = c .before .before .before .before .before .before .before .before .before .before .before .before in
     let k = j .before .before .before .before .before .before .before in
     let s = k .args in
-    let t = made (s .count) (s .numbers .now) (s .highest .now) (s .ended .now) (s .counts .now) (s .first .now) (s .last .now) in
+    let t = made (held (s .count) (s .numbers) (s .highest) (s .ended) (s .counts) (s .first) (s .last)) in
     let i = c .before .before .before .before .before .before .before .before .before .before .judged2 .given .0 .0 in
     let b = j .before .before .before .before .before .before .below .result in
     let w = told-at t (s .channel) b i (j .judge .result) (j .judge .ensures) (c .before .before .before .before .before .before .before .before .before .before .judged2 .given .1) in
@@ -42,7 +43,7 @@ returns c =
     let j = c .before .before .before .before .before .before .before .before .before .before .before .before .before in
     let k = j .before .before .before .before .before .before .before in
     let s = k .args in
-    let t = made (s .count) (s .numbers .now) (s .highest .now) (s .ended .now) (s .counts .now) (s .first .now) (s .last .now) in
+    let t = made (held (s .count) (s .numbers) (s .highest) (s .ended) (s .counts) (s .first) (s .last)) in
     let i = c .before .before .before .before .before .before .before .before .before .before .before .judged2 .given .0 .0 in
     let b = j .before .before .before .before .before .before .below .result in
     let w = told-at t (s .channel) b i (j .judge .result) (j .judge .ensures) (c .before .before .before .before .before .before .before .before .before .before .before .judged2 .given .1) in
@@ -50,7 +51,7 @@ returns c =
     let z : n ≡ natural (s .number) = rw (toZ-ofZ (k .fits .number)) at (c .before .before .before .before .before .before .before .before .before .natural .ensures) in
     let q = rw (toZ-ofZ (k .fits .number)) at (j .before .before .before .before .before .before .below .ensures) in
     let d = heartbeat-seat t (s .channel) b i w (s .number) (s .end) n z (sym q ∙ w .0) in
-    c .raise .ensures (s .count) (s .numbers .now) ∙ sym (d ∙ heard-ahead t i (seat-row t (s .channel) b i w) n (s .end) (omega arith))
+    c .raise .ensures (s .count) (s .numbers) ∙ sym (d ∙ heard-ahead t i (seat-row t (s .channel) b i w) n (s .end) (omega arith))
 
 element-write-ended : tie.Need-element-write-ended
 element-write-ended c = element-copy-out-before (c .before .before .before .before)
@@ -60,7 +61,7 @@ returns-2 c =
     let j = c .before .before .before in
     let k = j .before .before .before .before .before .before .before in
     let s = k .args in
-    let t = made (s .count) (s .numbers .now) (s .highest .now) (s .ended .now) (s .counts .now) (s .first .now) (s .last .now) in
+    let t = made (held (s .count) (s .numbers) (s .highest) (s .ended) (s .counts) (s .first) (s .last)) in
     let v = c .before .judged .given in
     let w = told-refused t (s .channel) (j .before .before .before .before .before .before .below .result) (v .0 .0) (j .judge .result) (j .judge .ensures) (v .1) in
     let q = rw (toZ-ofZ (k .fits .number)) at (j .before .before .before .before .before .before .below .ensures) in
@@ -71,7 +72,7 @@ returns-3 c =
     let j = c .before .before .before .before .before .before .before .before in
     let k = j .before .before .before .before .before .before .before in
     let s = k .args in
-    let t = made (s .count) (s .numbers .now) (s .highest .now) (s .ended .now) (s .counts .now) (s .first .now) (s .last .now) in
+    let t = made (held (s .count) (s .numbers) (s .highest) (s .ended) (s .counts) (s .first) (s .last)) in
     let i = c .before .before .before .before .before .before .judged2 .given .0 .0 in
     let b = j .before .before .before .before .before .before .below .result in
     let w = told-at t (s .channel) b i (j .judge .result) (j .judge .ensures) (c .before .before .before .before .before .before .judged2 .given .1) in

@@ -9,7 +9,8 @@ use borrow.Author.Tests.{ltb-false}
 use Rattle.gaps.specs.Channel.{tick, natural}
 use Rattle.rows.specs.declared.Held.the-variants.{No, AtEnd, Alone, Inside}
 use Rattle.tracker.specs.declared.Verdict.the-variants.{Late}
-use Rattle.tracker.specs.Inside.{made}
+use Rattle.seats.specs.Arrays.{held}
+use Rattle.tracker.specs.Places.{made}
 use Rattle.tracker.proofs.Signed.{below-one}
 use Rattle.tracker.proofs.Hold.{search-finds}
 use Rattle.tracker.proofs.Judge.{told-at, told-refused, tick-next, tick-ahead, behind, told-behind, laid-as, seat-row, tick-seat, kept-named}
@@ -22,7 +23,7 @@ element-copy-out-before c =
     let j = c .before .before .before in
     let k = j .before .before .before .before .before .before .before in
     let s = k .args in
-    let t = made (s .count) (s .numbers .now) (s .highest .now) (s .ended .now) (s .counts .now) (s .first .now) (s .last .now) in
+    let t = made (held (s .count) (s .numbers) (s .highest) (s .ended) (s .counts) (s .first) (s .last)) in
     let i = c .before .judged2 .given .0 .0 in
     let n = j .before .before .before .before .before .before .natural .result in
     let w = told-at t (s .channel) (ltb n 1) i (j .judge .result) (j .judge .ensures) (c .before .judged2 .given .1) in
@@ -36,7 +37,7 @@ sub-if1 c =
     let j = c .before .before .before .before in
     let k = j .before .before .before .before .before .before .before in
     let s = k .args in
-    let t = made (s .count) (s .numbers .now) (s .highest .now) (s .ended .now) (s .counts .now) (s .first .now) (s .last .now) in
+    let t = made (held (s .count) (s .numbers) (s .highest) (s .ended) (s .counts) (s .first) (s .last)) in
     let i = c .before .before .judged2 .given .0 .0 in
     let n = j .before .before .before .before .before .before .natural .result in
     let w = told-at t (s .channel) (ltb n 1) i (j .judge .result) (j .judge .ensures) (c .before .before .judged2 .given .1) in
@@ -55,7 +56,7 @@ returns c =
     let j = c .before .before .before .before .before in
     let k = j .before .before .before .before .before .before .before in
     let s = k .args in
-    let t = made (s .count) (s .numbers .now) (s .highest .now) (s .ended .now) (s .counts .now) (s .first .now) (s .last .now) in
+    let t = made (held (s .count) (s .numbers) (s .highest) (s .ended) (s .counts) (s .first) (s .last)) in
     let i = c .before .before .before .judged2 .given .0 .0 in
     let n = j .before .before .before .before .before .before .natural .result in
     let w = told-at t (s .channel) (ltb n 1) i (j .judge .result) (j .judge .ensures) (c .before .before .before .judged2 .given .1) in
@@ -73,7 +74,7 @@ raise-requires c κs =
     let j = c .before .before .before .before .before .before .before .before .before .before .before .before in
     let k = j .before .before .before .before .before .before .before in
     let s = k .args in
-    let t = made (s .count) (s .numbers .now) (s .highest .now) (s .ended .now) (s .counts .now) (s .first .now) (s .last .now) in
+    let t = made (held (s .count) (s .numbers) (s .highest) (s .ended) (s .counts) (s .first) (s .last)) in
     let i = c .before .before .before .before .before .before .before .before .before .before .judged2 .given .0 .0 in
     let n = j .before .before .before .before .before .before .natural .result in
     let w = told-at t (s .channel) (ltb n 1) i (j .judge .result) (j .judge .ensures) (c .before .before .before .before .before .before .before .before .before .before .judged2 .given .1) in
@@ -84,7 +85,7 @@ returns-2 c =
     let j = c .before .before .before .before .before .before .before .before .before .before .before .before .before in
     let k = j .before .before .before .before .before .before .before in
     let s = k .args in
-    let t = made (s .count) (s .numbers .now) (s .highest .now) (s .ended .now) (s .counts .now) (s .first .now) (s .last .now) in
+    let t = made (held (s .count) (s .numbers) (s .highest) (s .ended) (s .counts) (s .first) (s .last)) in
     let i = c .before .before .before .before .before .before .before .before .before .before .before .judged2 .given .0 .0 in
     let n = j .before .before .before .before .before .before .natural .result in
     let w = told-at t (s .channel) (ltb n 1) i (j .judge .result) (j .judge .ensures) (c .before .before .before .before .before .before .before .before .before .before .before .judged2 .given .1) in
@@ -92,7 +93,7 @@ returns-2 c =
     let r = seat-row t (s .channel) (ltb n 1) i w in
     let z : n ≡ natural (s .number) = rw (toZ-ofZ (k .fits .number)) at (j .before .before .before .before .before .before .natural .ensures) in
     let d = tick-seat t (s .channel) (ltb n 1) i w (s .number) n z p in
-    c .raise .ensures (s .count) (s .numbers .now) ∙ sym (d ∙ tick-ahead t i r n p (omega (arith, c .before .before .before .before .before .before .before .before .if1 .left, c .before .before .before .before .before .before .before .if2 .taken)))
+    c .raise .ensures (s .count) (s .numbers) ∙ sym (d ∙ tick-ahead t i r n p (omega (arith, c .before .before .before .before .before .before .before .before .if1 .left, c .before .before .before .before .before .before .before .if2 .taken)))
 
 element-copy-out-runs : tie.Need-element-copy-out-runs
 element-copy-out-runs c = element-copy-out-before (c .before .before .before)
@@ -105,7 +106,7 @@ element-write-first c =
     let j = c .before .before .before .before .before .before .before .before .before .before .before .before .before in
     let k = j .before .before .before .before .before .before .before in
     let s = k .args in
-    let t = made (s .count) (s .numbers .now) (s .highest .now) (s .ended .now) (s .counts .now) (s .first .now) (s .last .now) in
+    let t = made (held (s .count) (s .numbers) (s .highest) (s .ended) (s .counts) (s .first) (s .last)) in
     let i = c .before .before .before .before .before .before .before .before .before .before .before .judged2 .given .0 .0 in
     let n = j .before .before .before .before .before .before .natural .result in
     let w = told-at t (s .channel) (ltb n 1) i (j .judge .result) (j .judge .ensures) (c .before .before .before .before .before .before .before .before .before .before .before .judged2 .given .1) in
@@ -131,7 +132,7 @@ returns-3 c =
     let j = c .before .before .before .before .before .before .before .before .before .before .before .before .before in
     let k = j .before .before .before .before .before .before .before in
     let s = k .args in
-    let t = made (s .count) (s .numbers .now) (s .highest .now) (s .ended .now) (s .counts .now) (s .first .now) (s .last .now) in
+    let t = made (held (s .count) (s .numbers) (s .highest) (s .ended) (s .counts) (s .first) (s .last)) in
     let i = c .before .before .before .before .before .before .before .before .before .before .before .judged2 .given .0 .0 in
     let n = j .before .before .before .before .before .before .natural .result in
     let w = told-at t (s .channel) (ltb n 1) i (j .judge .result) (j .judge .ensures) (c .before .before .before .before .before .before .before .before .before .before .before .judged2 .given .1) in
@@ -150,7 +151,7 @@ leave-requires c κs =
     let j = c .before .before .before .before .before .before .before .before .before .before .before .before .before .before .before .before in
     let k = j .before .before .before .before .before .before .before in
     let s = k .args in
-    let t = made (s .count) (s .numbers .now) (s .highest .now) (s .ended .now) (s .counts .now) (s .first .now) (s .last .now) in
+    let t = made (held (s .count) (s .numbers) (s .highest) (s .ended) (s .counts) (s .first) (s .last)) in
     let i = c .before .before .before .before .before .before .before .before .before .before .before .before .before .before .judged2 .given .0 .0 in
     let n = j .before .before .before .before .before .before .natural .result in
     let w = told-at t (s .channel) (ltb n 1) i (j .judge .result) (j .judge .ensures) (c .before .before .before .before .before .before .before .before .before .before .before .before .before .before .judged2 .given .1) in
@@ -167,7 +168,7 @@ returns-4 c =
     let j = c .before .before .before .before .before .before .before .before .before .before .before .before .before .before .before .before .before in
     let k = j .before .before .before .before .before .before .before in
     let s = k .args in
-    let t = made (s .count) (s .numbers .now) (s .highest .now) (s .ended .now) (s .counts .now) (s .first .now) (s .last .now) in
+    let t = made (held (s .count) (s .numbers) (s .highest) (s .ended) (s .counts) (s .first) (s .last)) in
     let i = c .before .before .before .before .before .before .before .before .before .before .before .before .before .before .before .judged2 .given .0 .0 in
     let n = j .before .before .before .before .before .before .natural .result in
     let w = told-at t (s .channel) (ltb n 1) i (j .judge .result) (j .judge .ensures) (c .before .before .before .before .before .before .before .before .before .before .before .before .before .before .before .judged2 .given .1) in
@@ -187,7 +188,7 @@ returns-5 c =
     let j = c .before .before .before .before .before .before .before .before .before .before .before .before .before .before in
     let k = j .before .before .before .before .before .before .before in
     let s = k .args in
-    let t = made (s .count) (s .numbers .now) (s .highest .now) (s .ended .now) (s .counts .now) (s .first .now) (s .last .now) in
+    let t = made (held (s .count) (s .numbers) (s .highest) (s .ended) (s .counts) (s .first) (s .last)) in
     let i = c .before .before .before .before .before .before .before .before .before .before .before .before .judged2 .given .0 .0 in
     let n = j .before .before .before .before .before .before .natural .result in
     let w = told-at t (s .channel) (ltb n 1) i (j .judge .result) (j .judge .ensures) (c .before .before .before .before .before .before .before .before .before .before .before .before .judged2 .given .1) in
@@ -206,7 +207,7 @@ split-requires c κs =
     let j = c .before .before .before .before .before .before .before .before .before .before .before .before .before .before .before .before .before in
     let k = j .before .before .before .before .before .before .before in
     let s = k .args in
-    let t = made (s .count) (s .numbers .now) (s .highest .now) (s .ended .now) (s .counts .now) (s .first .now) (s .last .now) in
+    let t = made (held (s .count) (s .numbers) (s .highest) (s .ended) (s .counts) (s .first) (s .last)) in
     let i = c .before .before .before .before .before .before .before .before .before .before .before .before .before .before .before .judged2 .given .0 .0 in
     let n = j .before .before .before .before .before .before .natural .result in
     let w = told-at t (s .channel) (ltb n 1) i (j .judge .result) (j .judge .ensures) (c .before .before .before .before .before .before .before .before .before .before .before .before .before .before .before .judged2 .given .1) in
@@ -223,7 +224,7 @@ returns-6 c =
     let j = c .before .before .before .before .before .before .before .before .before .before .before .before .before .before .before .before .before .before in
     let k = j .before .before .before .before .before .before .before in
     let s = k .args in
-    let t = made (s .count) (s .numbers .now) (s .highest .now) (s .ended .now) (s .counts .now) (s .first .now) (s .last .now) in
+    let t = made (held (s .count) (s .numbers) (s .highest) (s .ended) (s .counts) (s .first) (s .last)) in
     let i = c .before .before .before .before .before .before .before .before .before .before .before .before .before .before .before .before .judged2 .given .0 .0 in
     let n = j .before .before .before .before .before .before .natural .result in
     let w = told-at t (s .channel) (ltb n 1) i (j .judge .result) (j .judge .ensures) (c .before .before .before .before .before .before .before .before .before .before .before .before .before .before .before .before .judged2 .given .1) in
@@ -243,7 +244,7 @@ returns-7 c =
     let j = c .before .before .before in
     let k = j .before .before .before .before .before .before .before in
     let s = k .args in
-    let t = made (s .count) (s .numbers .now) (s .highest .now) (s .ended .now) (s .counts .now) (s .first .now) (s .last .now) in
+    let t = made (held (s .count) (s .numbers) (s .highest) (s .ended) (s .counts) (s .first) (s .last)) in
     let n = j .before .before .before .before .before .before .natural .result in
     let v = c .before .judged .given in
     let z : n ≡ natural (s .number) = rw (toZ-ofZ (k .fits .number)) at (j .before .before .before .before .before .before .natural .ensures) in
@@ -255,7 +256,7 @@ returns-8 c =
     let j = c .before .before .before .before .before .before .before .before .before .before .before .before in
     let k = j .before .before .before .before .before .before .before in
     let s = k .args in
-    let t = made (s .count) (s .numbers .now) (s .highest .now) (s .ended .now) (s .counts .now) (s .first .now) (s .last .now) in
+    let t = made (held (s .count) (s .numbers) (s .highest) (s .ended) (s .counts) (s .first) (s .last)) in
     let i = c .before .before .before .before .before .before .before .before .before .before .judged2 .given .0 .0 in
     let n = j .before .before .before .before .before .before .natural .result in
     let w = told-at t (s .channel) (ltb n 1) i (j .judge .result) (j .judge .ensures) (c .before .before .before .before .before .before .before .before .before .before .judged2 .given .1) in

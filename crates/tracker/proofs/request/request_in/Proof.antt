@@ -1,7 +1,9 @@
 use denote.Ref.{now}
 use mathlib.Core.Path.{ap, sym, _∙_}
 use Rattle.wire.specs.Answer.{andThen}
-use Rattle.tracker.specs.Inside.{made, lostOf}
+use Rattle.seats.specs.Arrays.{held}
+use Rattle.tracker.specs.Places.{made}
+use Rattle.tracker.specs.Inside.{lostOf}
 use Rattle.tracker.proofs.FirstRun.{first-lies}
 use Rattle.tracker.proofs.Fitting.{answers-by, leaves-by}
 use borrow.Author.Needs.{needs}
@@ -13,7 +15,7 @@ ask-requires c κs =
     let r = c .before .before .wanted .given in
     let f = c .before .before .before .before in
     let s = f .before .before .args in
-    let t = made (s .count) (s .numbers .now) (s .highest .now) (s .ended .now) (s .counts .now) (s .first .now) (s .last .now) in
+    let t = made (held (s .count) (s .numbers) (s .highest) (s .ended) (s .counts) (s .first) (s .last)) in
     let e = sym (f .first-run .ensures) ∙ ap lostOf (c .before .before .wanted .given .1) in
     let w = first-lies t (s .channel) (r .0 .0) e in
     (w .order, w .high)
@@ -23,7 +25,7 @@ unfolding andThen
 returns c =
     let f = c .before .before .before .before .before .before .before in
     let s = f .before .before .args in
-    let t = made (s .count) (s .numbers .now) (s .highest .now) (s .ended .now) (s .counts .now) (s .first .now) (s .last .now) in
+    let t = made (held (s .count) (s .numbers) (s .highest) (s .ended) (s .counts) (s .first) (s .last)) in
     let e = sym (f .first-run .ensures) ∙ ap lostOf (c .before .before .before .before .before .wanted .given .1) in
     let a = answers-by t (s .channel) (now (s .out)) e in
     let l = leaves-by t (s .channel) (now (s .out)) e in
@@ -34,7 +36,7 @@ unfolding andThen
 returns-2 c =
     let f = c .before .before in
     let s = f .before .before .args in
-    let t = made (s .count) (s .numbers .now) (s .highest .now) (s .ended .now) (s .counts .now) (s .first .now) (s .last .now) in
+    let t = made (held (s .count) (s .numbers) (s .highest) (s .ended) (s .counts) (s .first) (s .last)) in
     let e = sym (f .first-run .ensures) ∙ ap lostOf (c .enum-told .given .1) in
     let a = answers-by t (s .channel) (now (s .out)) e in
     let l = leaves-by t (s .channel) (now (s .out)) e in
@@ -45,7 +47,7 @@ unfolding andThen
 returns-3 c =
     let f = c .before .before in
     let s = f .before .before .args in
-    let t = made (s .count) (s .numbers .now) (s .highest .now) (s .ended .now) (s .counts .now) (s .first .now) (s .last .now) in
+    let t = made (held (s .count) (s .numbers) (s .highest) (s .ended) (s .counts) (s .first) (s .last)) in
     let e = sym (f .first-run .ensures) ∙ ap lostOf (c .enum-told2 .given .1) in
     let a = answers-by t (s .channel) (now (s .out)) e in
     let l = leaves-by t (s .channel) (now (s .out)) e in
@@ -56,7 +58,7 @@ unfolding andThen
 returns-4 c =
     let f = c .before .before in
     let s = f .before .before .args in
-    let t = made (s .count) (s .numbers .now) (s .highest .now) (s .ended .now) (s .counts .now) (s .first .now) (s .last .now) in
+    let t = made (held (s .count) (s .numbers) (s .highest) (s .ended) (s .counts) (s .first) (s .last)) in
     let e = sym (f .first-run .ensures) ∙ ap lostOf (c .enum-told3 .given .1) in
     let a = answers-by t (s .channel) (now (s .out)) e in
     let l = leaves-by t (s .channel) (now (s .out)) e in
