@@ -20,7 +20,7 @@ use Rattle.tracker.specs.Places.{channel}
 use Rattle.seats.specs.Rules.{soundRow}
 use Rattle.tracker.specs.Rules.{wellFormed}
 use Rattle.tracker.specs.Arrived.{place}
-use Rattle.tracker.specs.Inside.{Kept}
+use Rattle.tracker.specs.Inside.{KeptIn}
 use Rattle.tracker.specs.FirstRun.{Lost, lost, nothingMissing, foremost, firstRun}
 use Rattle.tracker.proofs.Seated.{well-row, seatIn, seat-sound, seat-place}
 
@@ -88,7 +88,7 @@ lies-in h (s ∷ l) r m e p =
     let z : Lies s = record { low = leb-true 1 (s .first) (a .0); order = leb-true (s .first) (s .last) (b .0); high = omega arith } in
     rw q at z
 
-lies-row : (t : Tracker) (i : ℕ) (r : Run) → Kept t i → foremost (channel t i .runs) ≡ lost r → Lies r
+lies-row : (t : Tracker) (i : ℕ) (r : Run) → KeptIn t i → foremost (channel t i .runs) ≡ lost r → Lies r
 unfolding soundRow
 lies-row t i r w p =
     let h : ℕ = getD (t .highest) i 0 in
@@ -100,7 +100,7 @@ lies-row t i r w p =
 
 -- a first run that is answered, or none, is the foremost of the channel's runs
 pub record Foremost (t : Tracker) (k : ℕ) (x : Lost) : Type 0 where
-  pub kept : Kept t (place t k)
+  pub kept : KeptIn t (place t k)
   pub same : foremost (channel t (place t k) .runs) ≡ x
 
 pub first-of : (t : Tracker) (k : ℕ) (x : Lost) → firstRun t k ≡ accepted x → Foremost t k x

@@ -26,7 +26,7 @@ use Rattle.rows.specs.declared.Gap.{Gap}
 use Rattle.tracker.specs.Places.{made, mark, channel, put}
 use Rattle.seats.specs.declared.Seat.{Seat}
 use Rattle.seats.specs.Arrays.{arrays}
-use Rattle.tracker.specs.declared.Verdict.the-variants.{NoSuchChannel, NumberTooLow, Malformed}
+use Rattle.tracker.specs.declared.Verdict.the-variants.{Late, NoSuchChannel, NumberTooLow, TableFull, Malformed}
 use Rattle.tracker.specs.declared.Verdict.{Verdict}
 use Rattle.tracker.specs.declared.Judged.{Judged}
 use Rattle.tracker.specs.declared.Judged.the-variants.{Refused, At}
@@ -34,28 +34,15 @@ use Rattle.tracker.specs.Rules.{wellFormed}
 use Rattle.tracker.specs.Arrived.{Outcome, on, place, settled, arrived, answered}
 use Rattle.rows.specs.declared.Held.{Held}
 use Rattle.rows.specs.declared.Held.the-variants.{No, AtEnd, Alone, Inside}
-use Rattle.rows.specs.Held.{leftAt}
-use Rattle.tracker.specs.Inside.{Kept, Judges, stored}
+use Rattle.rows.specs.Held.{leftAt, heldIn}
+use Rattle.tracker.specs.Inside.{KeptIn, Judges, stepped, stored, raising, Fits, relaid, replaced, shut, cleft, lateAs}
 use Rattle.tracker.proofs.Told.{Room, Finds, finds-no, finds-run}
 use Rattle.tracker.proofs.Row.{span-length, span-at}
-use Rattle.tracker.proofs.Hold.{held-at}
+use Rattle.tracker.proofs.Hold.{held-at, search-finds}
 use Rattle.tracker.proofs.Signed.{natural-one, natural-pos}
 use Rattle.tracker.proofs.Seated.{well-row, arrived-10, arrived-7, arrived-at, seatIn, seat-sound, seat-place}
-use Rattle.tracker.proofs.Put.{RowOf, mended, mark-same, put-pushed, put-set, put-runs, put-same, kept-within}
-use Rattle.tracker.proofs.Shift.{shut, cleft, parts-length, put-shut, put-cleft}
-
--- the tracker with another run at one place
-abbrev pub replaced : Tracker → ℕ → ℕ → ℕ → Tracker
-replaced t p first last =
-    record {
-      count = t .count;
-      numbers = t .numbers;
-      highest = t .highest;
-      ended = t .ended;
-      counts = t .counts;
-      first = set (t .first) p first;
-      last = set (t .last) p last;
-    }
+use Rattle.tracker.proofs.Put.{RowOf, mended, mark-same, put-pushed, put-set, put-runs, put-same, kept-row}
+use Rattle.tracker.proofs.Shift.{parts-length, put-shut, put-cleft}
 
 -- ---- stored: 9, or the record
 
@@ -109,12 +96,12 @@ module _ (t : Tracker) (i : ℕ) (w : RowOf t i) where
     in-range : tooLow (tick (pos n)) ≡ false
     in-range = le-ltb n 1 p
 
-    ahead : getD (t .highest) i 0 < n → settled t i (judged (channel t i) (tick (pos n))) ≡
+    ahead : getD (t .highest) i 0 < n → stepped i (tick (pos n)) t ≡
         stored t i (accepted new) n (channel t i .ended) (fill (channel t i .runs) (channel t i .highest) (n - 1))
     ahead h = settled-stored t i (channel t i) (tick (pos n)) in-range ∙ rw (ticked-new (channel t i) n h)
 
     -- the next number: the highest alone changes
-    pub tick-next : getD (t .highest) i 0 ≡ n - 1 → settled t i (judged (channel t i) (tick (pos n))) ≡
+    pub tick-next : getD (t .highest) i 0 ≡ n - 1 → stepped i (tick (pos n)) t ≡
         record {
           said = accepted new;
           next = record {
@@ -131,31 +118,31 @@ module _ (t : Tracker) (i : ℕ) (w : RowOf t i) where
         ahead (omega arith)
         ∙ rw (fill-none (channel t i .runs) (channel t i .highest) (n - 1) (omega arith), stored-fits t i (accepted new) n (channel t i .ended) (channel t i .runs) runs-fit, put-runs t i w n (channel t i .ended), mark-same (t .ended) i (w .mark))
 
-    pub tick-ahead : getD (t .highest) i 0 < n - 1 → settled t i (judged (channel t i) (tick (pos n))) ≡
+    pub tick-ahead : getD (t .highest) i 0 < n - 1 → stepped i (tick (pos n)) t ≡
         stored t i (accepted new) n (channel t i .ended) (grow (channel t i .runs) (channel t i .highest) (n - 1))
     tick-ahead h = ahead (omega arith) ∙ rw (fill-some (channel t i .runs) (channel t i .highest) (n - 1) h)
 
-    pub tick-late : n ≤ getD (t .highest) i 0 → has (channel t i .runs) n ≡ true → settled t i (judged (channel t i) (tick (pos n))) ≡
+    pub tick-late : n ≤ getD (t .highest) i 0 → has (channel t i .runs) n ≡ true → stepped i (tick (pos n)) t ≡
         stored t i (accepted late) (channel t i .highest) (channel t i .ended) (cutAll (channel t i .runs) n)
     tick-late h q = settled-stored t i (channel t i) (tick (pos n)) in-range ∙ rw (ticked-late (channel t i) n h q)
 
-    pub tick-again : n ≤ getD (t .highest) i 0 → has (channel t i .runs) n ≡ false → settled t i (judged (channel t i) (tick (pos n))) ≡ record { said = accepted duplicate; next = t }
+    pub tick-again : n ≤ getD (t .highest) i 0 → has (channel t i .runs) n ≡ false → stepped i (tick (pos n)) t ≡ record { said = accepted duplicate; next = t }
     tick-again h q =
         settled-stored t i (channel t i) (tick (pos n)) in-range
         ∙ rw (ticked-again (channel t i) n h q, stored-fits t i (accepted duplicate) (channel t i .highest) (channel t i .ended) (channel t i .runs) runs-fit, put-same t i w)
 
   module _ (m : ℕ) (end : Bool) where
-    heard-at : settled t i (judged (channel t i) (heartbeat (pos m) end)) ≡
+    heard-at : stepped i (heartbeat (pos m) end) t ≡
         stored t i (accepted heard) (larger (channel t i .highest) m) (channel t i .ended || end) (fill (channel t i .runs) (channel t i .highest) m)
     unfolding announced
     heard-at = settled-stored t i (channel t i) (heartbeat (pos m) end) (le-ltb m 0 zero-le)
 
-    pub heard-ahead : getD (t .highest) i 0 < m → settled t i (judged (channel t i) (heartbeat (pos m) end)) ≡
+    pub heard-ahead : getD (t .highest) i 0 < m → stepped i (heartbeat (pos m) end) t ≡
         stored t i (accepted heard) m (channel t i .ended || end) (grow (channel t i .runs) (channel t i .highest) m)
     heard-ahead h = heard-at ∙ rw (fill-some (channel t i .runs) (channel t i .highest) m h, larger-is (channel t i .highest) m m (omega arith) (omega arith) (inr refl))
 
     -- nothing new is announced: the mark alone may change
-    pub heard-behind : m ≤ getD (t .highest) i 0 → settled t i (judged (channel t i) (heartbeat (pos m) end)) ≡
+    pub heard-behind : m ≤ getD (t .highest) i 0 → stepped i (heartbeat (pos m) end) t ≡
         record {
           said = accepted heard;
           next = record {
@@ -274,33 +261,30 @@ module _ (t : Tracker) (i n j : ℕ) (w : RowOf t i) (a : i < 8) (m : j < getD (
 
 -- ---- a number that is not above the highest, by what the search found
 
--- what a tick of n is answered, and the next tracker
-abbrev Gives : Tracker → ℕ → ℕ → Answer Said → Tracker → Type 0
-Gives t i n v u = settled t i (judged (channel t i) (tick (pos n))) ≡ record { said = v; next = u }
-
--- the places are the row's
+-- there is a run to change, and this is the tick's answer and the next tracker
 abbrev pub Behind : Tracker → ℕ → ℕ → Held → Type 0
-Behind t i n No = Gives t i n (accepted duplicate) t
-Behind t i n (AtEnd p first last) = (p < i * 32 + 32) × Gives t i n (accepted late) (replaced t p first last)
-Behind t i n (Alone p) = (1 ≤ getD (t .counts) i 0) × Gives t i n (accepted late) (shut t i p)
-Behind t i n (Inside p) =
-    (p < i * 32 + 32) × (getD (t .counts) i 0 < 32 → Gives t i n (accepted late) (cleft t i p n)) × (getD (t .counts) i 0 ≡ 32 → Gives t i n (refused tableFull []) t)
+Behind t i n s = Fits s (getD (t .counts) i 0) × (stepped i (tick (pos n)) t ≡ lateAs s i n t)
 
-pub behind : (t : Tracker) (i n : ℕ) → RowOf t i → i < 8 → 1 ≤ n → n ≤ getD (t .highest) i 0 → (s : Held) →
+behind : (t : Tracker) (i n : ℕ) → RowOf t i → i < 8 → 1 ≤ n → n ≤ getD (t .highest) i 0 → (s : Held) →
     Finds (t .first) (t .last) (i * 32) (getD (t .counts) i 0) n s → Behind t i n s
 unfolding leftAt
-behind t i n w a p h s (finds-no e) = tick-again t i w n p h e
+behind t i n w a p h s (finds-no e) = (tt, tick-again t i w n p h e)
 behind t i n w a p h s (finds-run j m f g) =
     go (ltb n (r .first)) refl (eqb n (r .first)) refl (ltb n (r .last)) refl (eqb n (r .last)) refl
   where
     r : Run
     r = run (getD (t .first) (i * 32 + j) 0) (getD (t .last) (i * 32 + j) 0)
 
-    late-by : {o : Outcome} → stored t i (accepted late) (channel t i .highest) (channel t i .ended) (cutAll (channel t i .runs) n) ≡ o → settled t i (judged (channel t i) (tick (pos n))) ≡ o
+    late-by : {o : Outcome} → stored t i (accepted late) (channel t i .highest) (channel t i .ended) (cutAll (channel t i .runs) n) ≡ o → stepped i (tick (pos n)) t ≡ o
     late-by e = tick-late t i w n p h (held-at (t .first) (t .last) (i * 32) (getD (t .counts) i 0) j n m f g) ∙ e
 
-    in-row : i * 32 + j < i * 32 + 32
+    in-row : i * 32 + j < 256
     in-row = omega (arith, w .room)
+
+    full : (b : Bool) → eqb (getD (t .counts) i 0) 32 ≡ b → cut r n ≡ run (r .first) (n - 1) ∷ run (n + 1) (r .last) ∷ [] →
+        stepped i (tick (pos n)) t ≡ cond b (answered TableFull t) (answered Late (cleft t i (i * 32 + j) n))
+    full true e k = late-by (tick-full t i n j w a m f g k (eqb-true (getD (t .counts) i 0) 32 e))
+    full false e k = late-by (tick-cleft t i n j w a m f g k (omega (arith, w .room, eqb-false (getD (t .counts) i 0) 32 e)))
 
     go : (x : Bool) → ltb n (r .first) ≡ x → (y : Bool) → eqb n (r .first) ≡ y → (z : Bool) → ltb n (r .last) ≡ z → (v : Bool) → eqb n (r .last) ≡ v →
         Behind t i n (cond x No (cond y (cond z (AtEnd (i * 32 + j) (n + 1) (r .last)) (Alone (i * 32 + j))) (cond v (AtEnd (i * 32 + j) (r .first) (n - 1)) (Inside (i * 32 + j)))))
@@ -309,16 +293,21 @@ behind t i n w a p h s (finds-run j m f g) =
     go false b true c false d v e = (omega arith, late-by (tick-shut t i n j w a m f g (cut-whole r n (eqb-true n (r .first) c) (omega (arith, ltb-false n (r .last) d)))))
     go false b false c z d true e = (in-row, late-by (tick-end t i n j (run (r .first) (n - 1)) w m f g (cut-back r n (omega (arith, eqb-false n (r .first) c)) (eqb-true n (r .last) e))))
     go false b false c z d false e =
-        let k = cut-mid r n (omega (arith, eqb-false n (r .first) c)) (omega (arith, eqb-false n (r .last) e)) in
-        (in-row, (λ q. late-by (tick-cleft t i n j w a m f g k q)), λ q. late-by (tick-full t i n j w a m f g k q))
+        (in-row, full (eqb (getD (t .counts) i 0) 32) refl (cut-mid r n (omega (arith, eqb-false n (r .first) c)) (omega (arith, eqb-false n (r .last) e))))
 
--- what is left in lent arrays
-pub laid-as : (v : Verdict) (k : ℕ) (ns h e : List ℕ) {c c′ f f′ l l′ : List ℕ} → c ≡ c′ → f ≡ f′ → l ≡ l′ →
-    answered v (made (arrays k ns h e c f l)) ≡ answered v (made (arrays k ns h e c′ f′ l′))
-laid-as v k ns h e p q r = λ m. answered v (made (arrays k ns h e (p m) (q m) (r m)))
+-- by what the search answered
+pub sought : (t : Tracker) (i n : ℕ) → KeptIn t i → 1 ≤ n → n ≤ getD (t .highest) i 0 → (s : Held) → s ≡ heldIn (t .first) (t .last) i (getD (t .counts) i 0) n → Behind t i n s
+sought t i n k p h s e =
+    let w = kept-row k in
+    behind t i n w (k .place) p h s (search-finds (t .first) (t .last) i (getD (t .counts) i 0) (getD (t .highest) i 0) n (k .place) (w .room) (w .order) s e)
 
-pub told-behind : (t : Tracker) (i n : ℕ) (x s : Held) → Behind t i n s → s ≡ x → Behind t i n x
-told-behind t i n x s w e = rw e at w
+-- what was found is this
+pub told-fits : (count : ℕ) {x s : Held} → s ≡ x → Fits s count → Fits x count
+told-fits count {x} {s} e w = rw e at w
+
+-- runs laid anew
+pub laid-as : (v : Verdict) (t : Tracker) {c c′ f f′ l l′ : List ℕ} → c ≡ c′ → f ≡ f′ → l ≡ l′ → answered v (relaid t c f l) ≡ answered v (relaid t c′ f′ l′)
+laid-as v t p q r = λ m. answered v (relaid t (p m) (q m) (r m))
 
 -- ---- an arrival's refusals by its channel's seat
 
@@ -351,21 +340,14 @@ module _ (t : Tracker) (k : ℕ) (low : Bool) where
 
 -- ---- from a place to its judgement, for numbers as the code holds them
 
--- whatever the count of channels and their numbers
-pub kept-named : (k m : ℕ) (ns ms h e c f l : List ℕ) (i : ℕ) → Kept (made (arrays k ns h e c f l)) i → Kept (made (arrays m ms h e c f l)) i
-kept-named k m ns ms h e c f l i w = record { place = w .place; mark = w .mark; row = w .row }
-
 module _ (t : Tracker) (k : ℕ) (low : Bool) (i : ℕ) (w : Judges t k low (At i)) where
-  pub seat-row : RowOf t i
-  seat-row = kept-within t i (w .1)
-
-  pub tick-seat : (z : ℤ) (n : ℕ) → n ≡ natural z → 1 ≤ n → arrived t (on k (tick z)) ≡ settled t i (judged (channel t i) (tick (pos n)))
+  pub tick-seat : (z : ℤ) (n : ℕ) → n ≡ natural z → 1 ≤ n → arrived t (on k (tick z)) ≡ stepped i (tick (pos n)) t
   tick-seat z n e p =
       let d : z ≡ pos n = natural-one z (rw e at p) ∙ ap pos (sym e) in
-      w .2 (tick z) ∙ ap (λ (y : ℤ). settled t i (judged (channel t i) (tick y))) d
+      w .2 (tick z) ∙ ap (λ (y : ℤ). stepped i (tick y) t) d
 
   pub heartbeat-seat : (z : ℤ) (end : Bool) (m : ℕ) → m ≡ natural z → ltZ z (pos 0) ≡ false →
-      arrived t (on k (heartbeat z end)) ≡ settled t i (judged (channel t i) (heartbeat (pos m) end))
+      arrived t (on k (heartbeat z end)) ≡ stepped i (heartbeat (pos m) end) t
   heartbeat-seat z end m e p =
       let d : z ≡ pos m = natural-pos z p ∙ ap pos (sym e) in
-      w .2 (heartbeat z end) ∙ ap (λ (y : ℤ). settled t i (judged (channel t i) (heartbeat y end))) d
+      w .2 (heartbeat z end) ∙ ap (λ (y : ℤ). stepped i (heartbeat y end) t) d

@@ -45,8 +45,8 @@ row-within h e n f l b m s =
 abbrev pub RowOf : Tracker → ℕ → Type 0
 RowOf t i = Within (getD (t .highest) i 0) (getD (t .ended) i 0) (getD (t .counts) i 0) (t .first) (t .last) (i * 32)
 
-pub kept-within : (t : Tracker) (i : ℕ) → Kept t i → RowOf t i
-kept-within t i k = row-within (getD (t .highest) i 0) (getD (t .ended) i 0) (getD (t .counts) i 0) (t .first) (t .last) (i * 32) (k .mark) (k .row)
+pub kept-row : {h e c f l : List ℕ} {i : ℕ} → Kept h e c f l i → Within (getD h i 0) (getD e i 0) (getD c i 0) f l (i * 32)
+kept-row {h} {e} {c} {f} {l} {i} k = row-within (getD h i 0) (getD e i 0) (getD c i 0) f l (i * 32) (k .mark) (k .row)
 
 -- ---- the ended mark
 

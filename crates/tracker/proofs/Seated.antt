@@ -19,7 +19,7 @@ use Rattle.seats.specs.Rules.{soundRow, soundRows, soundChannels, sound}
 use Rattle.tracker.specs.Rules.{wellFormed}
 use Rattle.tracker.specs.Arrived.{on, place, settled, arrived}
 use Rattle.seats.specs.Seat.{seating}
-use Rattle.tracker.specs.Inside.{Kept}
+use Rattle.tracker.specs.Inside.{KeptIn}
 use Rattle.seats.proofs.Heads.{marks-at, sound-count}
 
 rows-at : (a : Arrays) (lo i n j : ℕ) → soundRows a lo i n ≡ true → j < n →
@@ -38,7 +38,7 @@ module _ (t : Tracker) (e : wellFormed t ≡ true) where
   unfolding wellFormed
   well-count = sound-count (arraysOf t) e
 
-  pub well-row : (i : ℕ) → i < t .count → Kept t i
+  pub well-row : (i : ℕ) → i < t .count → KeptIn t i
   unfolding wellFormed sound soundChannels
   well-row i h =
       let a = arraysOf t in

@@ -16,6 +16,7 @@ use Rattle.rows.specs.Shift.{closing, opening, closed, opened}
 use Rattle.rows.proofs.Shift.{yes-places, closed-there, opened-there}
 use Rattle.tracker.specs.declared.Tracker.{Tracker}
 use Rattle.tracker.specs.Places.{mark, channel, put}
+use Rattle.tracker.specs.Inside.{shut, cleft}
 use Rattle.tracker.proofs.Row.{cells, cells-length, cells-add, cells-before, sets-same, span-firsts, span-lasts, span-length, span-take}
 use Rattle.tracker.proofs.Put.{RowOf, record-of, zeros-later}
 
@@ -107,32 +108,6 @@ span-drop f l b (suc n) (suc m) h =
     let e : b + suc n ≡ suc b + n = omega arith in
     let d : suc m - suc n ≡ m - n = omega arith in
     rw (e, d) (span-drop f l (suc b) n m (omega arith))
-
--- the tracker without the run at place j of channel i
-abbrev pub shut : Tracker → ℕ → ℕ → Tracker
-shut t i p =
-    record {
-      count = t .count;
-      numbers = t .numbers;
-      highest = t .highest;
-      ended = t .ended;
-      counts = set (t .counts) i (getD (t .counts) i 0 - 1);
-      first = closed (t .first) p (i * 32 + (getD (t .counts) i 0 - 1));
-      last = closed (t .last) p (i * 32 + (getD (t .counts) i 0 - 1));
-    }
-
--- the tracker whose run at place p of channel i is split around v
-abbrev pub cleft : Tracker → ℕ → ℕ → ℕ → Tracker
-cleft t i p v =
-    record {
-      count = t .count;
-      numbers = t .numbers;
-      highest = t .highest;
-      ended = t .ended;
-      counts = set (t .counts) i (getD (t .counts) i 0 + 1);
-      first = opened (t .first) (p + 1) (i * 32 + getD (t .counts) i 0) (v + 1);
-      last = opened (t .last) p (i * 32 + getD (t .counts) i 0) (v - 1);
-    }
 
 module _ (t : Tracker) (i : ℕ) (w : RowOf t i) (a : i < 8) (j : ℕ) (m : j < getD (t .counts) i 0) where
   abbrev n : ℕ

@@ -1,39 +1,70 @@
 -- What the private functions of the crate promise to one another.
-use Prim.Native.Nat.{ℕ, _*_, _≤_, _<_}
+use Prim.Native.Nat.{ℕ, _+_, _*_, _-_, _≤_, _<_}
 use mathlib.Core.Path.{_≡_}
 use mathlib.Core.List.{List, []}
 use mathlib.Core.Bool.{Bool, true, false, cond}
-use lib.Dec.{ltb}
-use lib.ListN.{length, getD}
+use lib.Dec.{ltb, eqb}
+use lib.ListN.{length, getD, set}
 use Rattle.wire.specs.Answer.{Answer, accepted, refused}
-use Rattle.gaps.specs.declared.Run.{Run}
 use Rattle.wire.specs.Refusal.{noSuchChannel, tableFull, malformed}
+use Rattle.gaps.specs.declared.Run.{Run}
 use Rattle.gaps.specs.Limits.{runLimit}
 use Rattle.gaps.specs.Gaps.{grow}
 use Rattle.gaps.specs.Channel.{Event, Said, tooLow, judged}
+use Rattle.seats.specs.Arrays.{Lent, Passed, held}
+use Rattle.seats.specs.Places.{channelLimit, placeCount}
+use Rattle.seats.specs.Rules.{soundRow}
+use Rattle.rows.specs.declared.Held.{Held}
+use Rattle.rows.specs.declared.Held.the-variants.{No, AtEnd, Alone, Inside}
+use Rattle.rows.specs.Shift.{closed, opened}
 use Rattle.tracker.specs.declared.Tracker.{Tracker}
 use Rattle.tracker.specs.declared.Wanted.{Wanted}
 use Rattle.tracker.specs.declared.Wanted.the-variants as wanted
 use Rattle.tracker.specs.declared.Verdict.{Verdict}
+use Rattle.tracker.specs.declared.Verdict.the-variants.{Late, Duplicate, TableFull}
 use Rattle.tracker.specs.declared.Judged.{Judged}
 use Rattle.tracker.specs.declared.Judged.the-variants.{Refused, At}
-use Rattle.seats.specs.Arrays.{Lent, Passed, held}
-use Rattle.seats.specs.Places.{channelLimit}
 use Rattle.tracker.specs.Places.{made, channel, put}
-use Rattle.seats.specs.Rules.{soundRow}
 use Rattle.tracker.specs.Arrived.{Outcome, on, settled, arrived, saidOf, answered}
 use Rattle.tracker.specs.FirstRun.{Lost, lost, nothingMissing}
 
--- the channel at place i keeps the rules
-pub record Kept (t : Tracker) (i : ℕ) : Type 0 where
+-- ---- an arrival's channel
+
+-- in these arrays the channel at place i keeps the rules
+pub record Kept (highest ended counts first last : List ℕ) (i : ℕ) : Type 0 where
   pub place : i < channelLimit
-  pub mark : getD (t .ended) i 0 ≤ 1
-  pub row : soundRow (getD (t .highest) i 0) (getD (t .counts) i 0) (t .first) (t .last) (i * runLimit) ≡ true
+  pub mark : getD ended i 0 ≤ 1
+  pub row : soundRow (getD highest i 0) (getD counts i 0) first last (i * runLimit) ≡ true
+
+abbrev pub KeptIn : Tracker → ℕ → Type 0
+KeptIn t i = Kept (t .highest) (t .ended) (t .counts) (t .first) (t .last) i
+
+-- the event judged by it
+abbrev pub stepped : ℕ → Event → Tracker → Outcome
+stepped i e t = settled t i (judged (channel t i) e)
 
 -- an event on channel k that is too low where `low` says so: refused, with the tracker as it stood, or judged by its channel, which keeps the rules
 abbrev pub Judges : Tracker → ℕ → Bool → Judged → Type 0
-Judges t k low (Refused v) = (e : Event) → tooLow e ≡ low → arrived t (on k e) ≡ record { said = saidOf v; next = t }
-Judges t k low (At i) = (low ≡ false) × Kept t i × ((e : Event) → arrived t (on k e) ≡ settled t i (judged (channel t i) e))
+Judges t k low (Refused v) = (e : Event) → tooLow e ≡ low → arrived t (on k e) ≡ answered v t
+Judges t k low (At i) = (low ≡ false) × KeptIn t i × ((e : Event) → arrived t (on k e) ≡ stepped i e t)
+
+-- ---- what lent arrays become
+
+-- the answer, and those of the next tracker, whatever the count of channels and their numbers
+abbrev pub Becomes : Verdict → (Tracker → Outcome) → (highest ended counts first last : Passed) → Type 0
+Becomes r next highest ended counts first last =
+    (k : ℕ) (ns : Lent) →
+    answered r (made (held k ns (highest .exit) (ended .exit) (counts .exit) (first .exit) (last .exit))) ≡
+    next (made (held k ns (highest .entry) (ended .entry) (counts .entry) (first .entry) (last .entry)))
+
+-- the same of the runs alone, whatever the highest numbers and the marks too
+abbrev pub Relays : Verdict → (Tracker → Outcome) → (counts first last : Passed) → Type 0
+Relays r next counts first last =
+    (k : ℕ) (ns h e : Lent) →
+    answered r (made (held k ns h e (counts .exit) (first .exit) (last .exit))) ≡
+    next (made (held k ns h e (counts .entry) (first .entry) (last .entry)))
+
+-- ---- numbers that become missing
 
 -- 9 where these runs are more than 32, else this answer and the record with them
 unfoldable pub stored : Tracker → ℕ → Answer Said → ℕ → Bool → List Run → Outcome
@@ -42,20 +73,60 @@ stored t i a highest ended runs =
     (record { said = refused tableFull []; next = t })
     (record { said = a; next = put t i (record { highest = highest; ended = ended; runs = runs }) })
 
--- the paper's number and values for each case of the first run's answer
+-- the record whose numbers behind the highest, up to m, are missing
+abbrev pub raising : ℕ → Answer Said → ℕ → Bool → ℕ → Tracker → Outcome
+raising i said top mark m t = stored t i said top mark (grow (channel t i .runs) (channel t i .highest) m)
+
+-- ---- a number that is not above the highest, by what the search found
+
+-- there is a run to change: a place of runs, or one run at least, of this count
+abbrev pub Fits : Held → ℕ → Type 0
+Fits No count = Unit
+Fits (AtEnd p first last) count = p < placeCount
+Fits (Alone p) count = 1 ≤ count
+Fits (Inside p) count = p < placeCount
+
+-- the same tracker with these counts and places of runs
+abbrev pub relaid : Tracker → (counts first last : List ℕ) → Tracker
+relaid t counts first last =
+    record {
+      count = t .count;
+      numbers = t .numbers;
+      highest = t .highest;
+      ended = t .ended;
+      counts = counts;
+      first = first;
+      last = last;
+    }
+
+-- another run at place p; the run at place p of channel i gone; the same run split around n
+abbrev pub replaced : Tracker → ℕ → ℕ → ℕ → Tracker
+replaced t p first last = relaid t (t .counts) (set (t .first) p first) (set (t .last) p last)
+
+abbrev pub shut : Tracker → ℕ → ℕ → Tracker
+shut t i p =
+    relaid t (set (t .counts) i (getD (t .counts) i 0 - 1))
+    (closed (t .first) p (i * runLimit + (getD (t .counts) i 0 - 1)))
+    (closed (t .last) p (i * runLimit + (getD (t .counts) i 0 - 1)))
+
+abbrev pub cleft : Tracker → ℕ → ℕ → ℕ → Tracker
+cleft t i p n =
+    relaid t (set (t .counts) i (getD (t .counts) i 0 + 1))
+    (opened (t .first) (p + 1) (i * runLimit + getD (t .counts) i 0) (n + 1))
+    (opened (t .last) p (i * runLimit + getD (t .counts) i 0) (n - 1))
+
+-- the answer, and the next tracker
+abbrev pub lateAs : Held → ℕ → ℕ → Tracker → Outcome
+lateAs No i n t = answered Duplicate t
+lateAs (AtEnd p first last) i n t = answered Late (replaced t p first last)
+lateAs (Alone p) i n t = answered Late (shut t i p)
+lateAs (Inside p) i n t = cond (eqb (getD (t .counts) i 0) runLimit) (answered TableFull t) (answered Late (cleft t i p n))
+
+-- ---- the first run of a channel
+
+-- the paper's number and values for each case of the answer
 abbrev pub lostOf : Wanted → Answer Lost
 lostOf (wanted.First r) = accepted (lost r)
 lostOf wanted.NothingMissing = accepted nothingMissing
 lostOf wanted.NoSuchChannel = refused noSuchChannel []
 lostOf wanted.Malformed = refused malformed []
-
--- 9, or the record whose numbers behind the highest, up to m, are missing
-abbrev pub raising : Tracker → ℕ → Answer Said → ℕ → Bool → ℕ → Outcome
-raising t i said top mark m = stored t i said top mark (grow (channel t i .runs) (channel t i .highest) m)
-
--- the lent arrays become those, whatever the count of channels and their numbers
-abbrev pub Raises : Verdict → (highest ended counts first last : Passed) → ℕ → Answer Said → ℕ → Bool → ℕ → Type 0
-Raises r highest ended counts first last i said top mark m =
-    (k : ℕ) (ns : Lent) →
-    answered r (made (held k ns (highest .exit) (ended .exit) (counts .exit) (first .exit) (last .exit))) ≡
-    raising (made (held k ns (highest .entry) (ended .entry) (counts .entry) (first .entry) (last .entry))) i said top mark m
