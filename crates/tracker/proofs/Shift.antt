@@ -3,14 +3,13 @@
 use Prim.Native.Nat.{ℕ, zero, suc, _+_, _*_, _-_, _≤_, _<_}
 use native.Mathlib.Omega.{arith}
 use mathlib.Core.Path.{_≡_, refl, ap, sym, _∙_}
-use mathlib.Core.List.{List, [], _∷_, _++_, append-assoc, map}
+use mathlib.Core.List.{List, [], _∷_, _++_, append-assoc, map, map-append}
 use mathlib.Core.Bool.{Bool, true}
 use lib.ListN.{length, take, drop, getD, set, replicate, length-append}
 use lib.Seq.{sets}
 use Rattle.gaps.specs.declared.Run.{Run}
 use Rattle.gaps.specs.Gaps.{run}
 use Rattle.gaps.specs.Built.{firsts, lasts, padded}
-use Rattle.gaps.proofs.Pack.{map-append}
 use Rattle.seats.specs.Places.{span}
 use Rattle.rows.specs.Shift.{closing, opening, closed, opened}
 use Rattle.rows.proofs.Shift.{yes-places, closed-there, opened-there}

@@ -16,7 +16,7 @@ use crate::Tracker;
 use crate::Verdict;
 use crate::refused::judge;
 use crate::signs;
-use gaps::Runs;
+use gaps::Run;
 use rows::Held;
 use rows::close;
 use rows::open;
@@ -208,7 +208,7 @@ fn raise(
         return Verdict::TableFull;
     }
     let j = gap.at;
-    let p = at * Runs::LIMIT + j;
+    let p = at * Run::LIMIT + j;
     first[p] = gap.first;
     last[p] = m;
     counts[at] = j + 1;
@@ -229,7 +229,7 @@ fn leave(
     ensures { λ r. ⌜ Relays r (lateAs (Alone p) at 0) counts first last ⌝ }
 {
     let left = counts[at] - 1;
-    let q = at * Runs::LIMIT + left;
+    let q = at * Run::LIMIT + left;
     close(first, p, q);
     close(last, p, q);
     counts[at] = left;
@@ -249,10 +249,10 @@ fn split(
     ensures { λ r. ⌜ Relays r (lateAs (Inside p) at n) counts first last ⌝ }
 {
     let held = counts[at];
-    if held == Runs::LIMIT {
+    if held == Run::LIMIT {
         return Verdict::TableFull;
     }
-    let q = at * Runs::LIMIT + held;
+    let q = at * Run::LIMIT + held;
     open(first, p + 1, q, n + 1);
     open(last, p, q, n - 1);
     counts[at] = held + 1;

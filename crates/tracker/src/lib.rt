@@ -5,7 +5,6 @@ ghost use Rattle.tracker.specs.SetUp.{blankWith, setUp, paper as begun};
 ghost use Rattle.tracker.specs.Arrived.{on, arrived, paper};
 ghost use Rattle.tracker.specs.Request.{answering, leaving, paper as requested};
 use gaps::Run;
-use gaps::Runs;
 pub use lent::heartbeat_in;
 pub use lent::tick_in;
 pub use request::request_in;

@@ -14,7 +14,6 @@ use crate::Requested;
 use crate::Tracker;
 use crate::Wanted;
 use gaps::Run;
-use gaps::Runs;
 use record::Resend;
 use seats::seat_of;
 use writer::Written;
@@ -43,7 +42,7 @@ fn first_run<'a>(
     if counts[at] == 0 {
         return Wanted::NothingMissing;
     }
-    let b = at * Runs::LIMIT;
+    let b = at * Run::LIMIT;
     Wanted::First(Run {
         first: first[b],
         last: last[b],
