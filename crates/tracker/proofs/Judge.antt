@@ -25,7 +25,8 @@ use Rattle.tracker.specs.declared.Tracker.{Tracker}
 use Rattle.rows.specs.declared.Gap.{Gap}
 use Rattle.tracker.specs.Places.{made, mark, channel, put}
 use Rattle.seats.specs.declared.Seat.{Seat}
-use Rattle.seats.specs.Arrays.{arrays}
+use Rattle.seats.specs.Arrays.{Arrays}
+use Rattle.seats.specs.Seat.{seating}
 use Rattle.tracker.specs.declared.Verdict.the-variants.{Late, NoSuchChannel, NumberTooLow, TableFull, Malformed}
 use Rattle.tracker.specs.declared.Verdict.{Verdict}
 use Rattle.tracker.specs.declared.Judged.{Judged}
@@ -40,7 +41,7 @@ use Rattle.tracker.proofs.Told.{Room, Finds, finds-no, finds-run}
 use Rattle.tracker.proofs.Row.{span-length, span-at}
 use Rattle.tracker.proofs.Hold.{held-at, search-finds}
 use Rattle.tracker.proofs.Signed.{natural-one, natural-pos}
-use Rattle.tracker.proofs.Seated.{well-row, arrived-10, arrived-7, arrived-at, seatIn, seat-sound, seat-place}
+use Rattle.tracker.proofs.Seated.{well-row, arrived-10, arrived-7, arrived-at, seat-sound, seat-place}
 use Rattle.tracker.proofs.Put.{RowOf, mended, mark-same, put-pushed, put-set, put-runs, put-same, kept-row}
 use Rattle.tracker.proofs.Shift.{parts-length, put-shut, put-cleft}
 
@@ -311,24 +312,26 @@ laid-as v t p q r = λ m. answered v (relaid t (p m) (q m) (r m))
 
 -- ---- an arrival's refusals by its channel's seat
 
-module _ (t : Tracker) (k : ℕ) (low : Bool) (s : Seat) (q : s ≡ seatIn t k) where
-  pub judges-10 : s .sound ≡ false → Judges t k low (Refused Malformed)
-  judges-10 p = λ e z. arrived-10 t k e (seat-sound t k s q ∙ p)
+module _ (a : Arrays) (k : ℕ) (s : Seat) (q : s ≡ seating k a) (low : Bool) where
+  pub judges-10 : s .sound ≡ false → Judges (made a) k low (Refused Malformed)
+  judges-10 p = λ e z. arrived-10 (made a) k e (seat-sound a k s q ∙ p)
 
   module _ (p : s .sound ≡ true) where
-    well : wellFormed t ≡ true
-    well = seat-sound t k s q ∙ p
+    well : wellFormed (made a) ≡ true
+    well = seat-sound a k s q ∙ p
 
-    pub judges-7 : t .count ≤ s .at → Judges t k low (Refused NoSuchChannel)
-    judges-7 h = λ e z. arrived-7 t k e well (rw (seat-place t k s q well) h)
+    pub judges-7 : a .count ≤ s .at → Judges (made a) k low (Refused NoSuchChannel)
+    judges-7 h = λ e z. arrived-7 (made a) k e well (rw (seat-place a k s q well) h)
 
-    pub judges-8 : s .at < t .count → low ≡ true → Judges t k low (Refused NumberTooLow)
-    judges-8 h l = λ e z. arrived-at t k e well (rw (seat-place t k s q well) h) ∙ settled-low t (place t k) (channel t (place t k)) e (z ∙ l)
+    pub judges-8 : s .at < a .count → low ≡ true → Judges (made a) k low (Refused NumberTooLow)
+    judges-8 h l =
+        let t = made a in
+        λ e z. arrived-at t k e well (rw (seat-place a k s q well) h) ∙ settled-low t (place t k) (channel t (place t k)) e (z ∙ l)
 
-    pub judges-at : s .at < t .count → low ≡ false → Judges t k low (At (s .at))
+    pub judges-at : s .at < a .count → low ≡ false → Judges (made a) k low (At (s .at))
     judges-at h l =
-        let d = seat-place t k s q well in
-        (l, well-row t well (s .at) h, λ e. (rw d at (arrived-at t k e well (rw d h))))
+        let d = seat-place a k s q well in
+        (l, well-row (made a) well (s .at) h, λ e. (rw d at (arrived-at (made a) k e well (rw d h))))
 
 -- what the judge's answer tells
 module _ (t : Tracker) (k : ℕ) (low : Bool) where

@@ -14,7 +14,7 @@ use Rattle.gaps.proofs.Numbers.{and-split}
 use Rattle.tracker.specs.declared.Tracker.{Tracker}
 use Rattle.seats.specs.declared.Seat.{Seat}
 use Rattle.seats.specs.Arrays.{Arrays}
-use Rattle.tracker.specs.Places.{arraysOf, channel}
+use Rattle.tracker.specs.Places.{made, arraysOf, channel}
 use Rattle.seats.specs.Rules.{soundRow, soundRows, soundChannels, sound}
 use Rattle.tracker.specs.Rules.{wellFormed}
 use Rattle.tracker.specs.Arrived.{on, place, settled, arrived}
@@ -68,14 +68,11 @@ module _ (t : Tracker) (k : ℕ) (e : Event) where
 
 -- ---- a seat
 
-abbrev pub seatIn : Tracker → ℕ → Seat
-seatIn t k = seating k (arraysOf t)
-
-module _ (t : Tracker) (k : ℕ) (s : Seat) (q : s ≡ seatIn t k) where
-  pub seat-sound : wellFormed t ≡ s .sound
+module _ (a : Arrays) (k : ℕ) (s : Seat) (q : s ≡ seating k a) where
+  pub seat-sound : wellFormed (made a) ≡ s .sound
   unfolding seating wellFormed
   seat-sound = sym (ap (λ (x : Seat). x .sound) q)
 
-  pub seat-place : wellFormed t ≡ true → place t k ≡ s .at
+  pub seat-place : wellFormed (made a) ≡ true → place (made a) k ≡ s .at
   unfolding seating wellFormed place
   seat-place p = sym (ap (λ (x : Seat). x .at) q ∙ rw p)
