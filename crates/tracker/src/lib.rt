@@ -1,8 +1,9 @@
 // The gap record of up to eight channels: which numbers never came, in whatever order they came.
 ghost use mathlib.Core.Path.{_≡_};
 ghost use Rattle.gaps.specs.Channel.{tick, heartbeat};
-ghost use Rattle.tracker.specs.SetUp.{blankWith, setUp, paper as begun};
-ghost use Rattle.tracker.specs.Arrived.{on, arrived, paper};
+ghost use Rattle.tracker.specs.Number.{refusalNumber};
+ghost use Rattle.tracker.specs.SetUp.{blankWith, setUp, saidOf as startOf, paper as begun};
+ghost use Rattle.tracker.specs.Arrived.{on, arrived, saidOf, paper};
 ghost use Rattle.tracker.specs.Request.{answering, leaving, paper as requested};
 use gaps::Run;
 pub use lent::heartbeat_in;
@@ -13,6 +14,7 @@ use seats::Seat;
 use seats::listed;
 
 mod lent;
+mod numbers;
 mod refused;
 mod request;
 mod signs;
@@ -35,6 +37,18 @@ pub enum Start {
     Malformed,
 }
 
+impl Start {
+    // The paper's number of the refusal; 0 where it is none.
+    pub fn number(self) -> u32
+        ensures { λ r. ⌜ r ≡ refusalNumber (startOf self) ⌝ }
+    {
+        match self {
+            Start::SetUp => numbers::NONE,
+            Start::Malformed => numbers::MALFORMED,
+        }
+    }
+}
+
 // The set-up's answer, and the tracker.
 pub struct Started {
     pub verdict: Start,
@@ -51,6 +65,24 @@ pub enum Verdict {
     NumberTooLow,
     TableFull,
     Malformed,
+}
+
+impl Verdict {
+    // The paper's number of the refusal; 0 where it is none.
+    pub fn number(self) -> u32
+        ensures { λ r. ⌜ r ≡ refusalNumber (saidOf self) ⌝ }
+    {
+        match self {
+            Verdict::New => numbers::NONE,
+            Verdict::Late => numbers::NONE,
+            Verdict::Duplicate => numbers::NONE,
+            Verdict::Heard => numbers::NONE,
+            Verdict::NoSuchChannel => numbers::NO_SUCH_CHANNEL,
+            Verdict::NumberTooLow => numbers::NUMBER_TOO_LOW,
+            Verdict::TableFull => numbers::TABLE_FULL,
+            Verdict::Malformed => numbers::MALFORMED,
+        }
+    }
 }
 
 // An arrival's answer, and the next tracker.
@@ -71,6 +103,19 @@ pub enum Requested {
 impl Requested {
     // The most numbers that one request asks for.
     pub const BATCH: u64 = 200;
+
+    // The paper's number of the refusal; 0 where it is none.
+    pub fn number(self) -> u32
+        ensures { λ r. ⌜ r ≡ refusalNumber (requested self) ⌝ }
+    {
+        match self {
+            Requested::Written(_) => numbers::NONE,
+            Requested::NothingMissing => numbers::NONE,
+            Requested::Malformed => numbers::MALFORMED,
+            Requested::NoSuchChannel => numbers::NO_SUCH_CHANNEL,
+            Requested::OutputShort => numbers::OUTPUT_SHORT,
+        }
+    }
 }
 
 // The first run of a channel, or why there is none.
