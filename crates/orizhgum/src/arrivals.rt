@@ -10,7 +10,6 @@ use crate::answers::DUPLICATE;
 use crate::answers::LATE;
 use crate::answers::PLAIN;
 use seats::Seat;
-use tracker::Start;
 use tracker::Tracker;
 use tracker::Verdict;
 use tracker::heartbeat_in;
@@ -31,10 +30,10 @@ fn verdict_number(verdict: Verdict) -> u32
         Verdict::Late => LATE,
         Verdict::Duplicate => DUPLICATE,
         Verdict::Heard => PLAIN,
-        Verdict::NoSuchChannel => 7,
-        Verdict::NumberTooLow => 8,
-        Verdict::TableFull => 9,
-        Verdict::Malformed => 10,
+        Verdict::NoSuchChannel => verdict.number(),
+        Verdict::NumberTooLow => verdict.number(),
+        Verdict::TableFull => verdict.number(),
+        Verdict::Malformed => verdict.number(),
     }
 }
 
@@ -46,15 +45,9 @@ pub extern "C" fn orizhgum_set_up(channels: &[u16]) -> StartAnswer
     let s = Tracker::set_up(channels);
     let verdict = s.verdict;
     let tracker = s.tracker;
-    match verdict {
-        Start::SetUp => StartAnswer {
-            answer: PLAIN,
-            tracker,
-        },
-        Start::Malformed => StartAnswer {
-            answer: 10,
-            tracker,
-        },
+    StartAnswer {
+        answer: verdict.number(),
+        tracker,
     }
 }
 

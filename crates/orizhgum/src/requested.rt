@@ -27,7 +27,7 @@ pub extern "C" fn orizhgum_request_in<'a>(
     ensures { λ r. ⌜ r ≡ requestAnswer (answering (made (found count numbers highest ended counts first last)) channel (now (out .entry))) ⌝ }
     ensures { λ r. ⌜ now (out .exit) ≡ leaving (made (found count numbers highest ended counts first last)) channel (now (out .entry)) ⌝ }
 {
-    match request_in(
+    let requested = request_in(
         count,
         numbers,
         highest,
@@ -37,7 +37,8 @@ pub extern "C" fn orizhgum_request_in<'a>(
         last,
         channel,
         out,
-    ) {
+    );
+    match requested {
         Requested::Written(n) => WriteAnswer {
             answer: PLAIN,
             written: n,
@@ -47,15 +48,15 @@ pub extern "C" fn orizhgum_request_in<'a>(
             written: 0,
         },
         Requested::Malformed => WriteAnswer {
-            answer: 10,
+            answer: requested.number(),
             written: 0,
         },
         Requested::NoSuchChannel => WriteAnswer {
-            answer: 7,
+            answer: requested.number(),
             written: 0,
         },
         Requested::OutputShort => WriteAnswer {
-            answer: 6,
+            answer: requested.number(),
             written: 0,
         },
     }
