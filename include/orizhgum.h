@@ -272,9 +272,10 @@ struct orizhgum_group_answer {
 
 struct orizhgum_group_answer orizhgum_group(uint32_t kind, const uint8_t *body, size_t length, uint32_t i);
 
-/* ---- entries of a snapshot or an index: no struct of an entry holds a price */
+/* ---- entries of a snapshot or an index: no struct of an entry holds a price, a lent number takes it.
+ * To go through them: orizhgum_cursor once, then orizhgum_next until none is left. */
 
-/* what an entry says */
+/* what an entry says; 1, 3 and 5 say a price, the others none */
 enum {
     ORIZHGUM_SAYS_LEVEL = 1,
     ORIZHGUM_SAYS_LEVEL_WITHOUT_PRICE = 2,
@@ -320,10 +321,14 @@ struct orizhgum_quantity_answer {
 /* the cursor before the first entry, for a body that its record's call accepts */
 struct orizhgum_cursor orizhgum_cursor(uint32_t kind, const uint8_t *body, size_t length);
 
-/* the entry at a cursor and the cursor behind it; without an entry the cursor stays */
+/* the entry at a cursor, its price, and the cursor behind it; without an entry the cursor stays. *price is written where the
+ * answer is 0 and the entry says 1, 3 or 5; everywhere else it is left as it stood */
+struct orizhgum_step_answer orizhgum_next(struct orizhgum_cursor at, uint32_t kind, const uint8_t *body, size_t length, int64_t *price);
+
+/* the same without the price, for a host that looks at none; orizhgum_next is the faster call */
 struct orizhgum_step_answer orizhgum_step(struct orizhgum_cursor at, uint32_t kind, const uint8_t *body, size_t length);
 
-/* the price of the entry at a cursor; ORIZHGUM_NO_PRICE, and every other answer but 0, leaves *price as it stood */
+/* the price alone, for a host that kept a cursor; ORIZHGUM_NO_PRICE, and every other answer but 0, leaves *price as it stood */
 uint32_t orizhgum_step_price(struct orizhgum_cursor at, uint32_t kind, const uint8_t *body, size_t length, int64_t *price);
 
 /* entry i, its price, and shown quantity j of it, by position from 0: each call judges the whole body */

@@ -302,7 +302,8 @@ impl Play<'_> {
         }
     }
 
-    /// Asks for the price of the entry at a cursor, and steps over it.
+    /// Asks for the price of the entry at a cursor, and steps over it: with
+    /// its price in one call, and without.
     fn step(&mut self, kind: u32, body: &[u8], cursor: Cursor) -> Result<StepAnswer, Told> {
         let (a, b) = (self.first, self.second);
         let call = || format!("price at step {kind} {cursor:?}");
@@ -311,6 +312,10 @@ impl Play<'_> {
         let (answer, _) = same(call, first, second)?;
         self.table
             .meet(Part::Positions, table::STEP_PRICE, priced(answer));
+        let call = || format!("next {kind} {cursor:?}");
+        let first = lent_number(|price| a.next(kind, body, cursor, price));
+        let second = lent_number(|price| b.next(kind, body, cursor, price));
+        same(call, first, second)?;
         let call = || format!("step {kind} {cursor:?}");
         let answer = same(call, a.step(kind, body, cursor), b.step(kind, body, cursor))?;
         self.table

@@ -335,6 +335,19 @@ impl Receiver for Board {
         }
     }
 
+    fn next(&self, kind: u32, body: &[u8], cursor: Cursor, price: &mut i64) -> StepAnswer {
+        let told = unsafe { orizhgum_next(cursor, kind, lent(body), body.len(), price) };
+        let priced = match (told.answer, told.entry.says) {
+            (0, SAYS_LEVEL | SAYS_PRICE | SAYS_PRICE_AND_SIZE) => PriceAnswer::Price,
+            (0, _) => PriceAnswer::NoPrice,
+            (answer, _) => priced(answer),
+        };
+        StepAnswer {
+            entry: found(told.answer, &told.entry, priced, *price),
+            next: told.next,
+        }
+    }
+
     fn step_price(&self, kind: u32, body: &[u8], cursor: Cursor, price: &mut i64) -> PriceAnswer {
         priced(unsafe { orizhgum_step_price(cursor, kind, lent(body), body.len(), price) })
     }

@@ -80,13 +80,13 @@ pub enum AskedQuantity {
 }
 
 // Which type characters are a level, a price, price and size; and a price in an index. `0` is 0x3020, `x1` is 0x7831.
-fn is_level(characters: u16) -> bool
+pub fn is_level(characters: u16) -> bool
     ensures { λ r. ⌜ r ≡ among levels characters ⌝ }
 {
     (characters == 0x3020) | (characters == 0x3120)
 }
 
-fn is_price(characters: u16) -> bool
+pub fn is_price(characters: u16) -> bool
     ensures { λ r. ⌜ r ≡ among prices characters ⌝ }
 {
     (characters == 0x3220)
@@ -105,13 +105,13 @@ fn is_price(characters: u16) -> bool
                                                         | (characters == 0x786b)))))))))))))
 }
 
-fn is_both(characters: u16) -> bool
+pub fn is_both(characters: u16) -> bool
     ensures { λ r. ⌜ r ≡ among boths characters ⌝ }
 {
     (characters == 0x7833) | (characters == 0x7834)
 }
 
-fn is_index_price(characters: u16) -> bool
+pub fn is_index_price(characters: u16) -> bool
     ensures { λ r. ⌜ r ≡ among indexPrices characters ⌝ }
 {
     (characters == 0x3320)
@@ -119,16 +119,19 @@ fn is_index_price(characters: u16) -> bool
             | ((characters == 0x7862) | ((characters == 0x7863) | (characters == 0x7864))))
 }
 
-const XE: u16 = 0x7865;
+impl Says {
+    // The characters `xe` and `xf`, which say a price or no limit, and `xg`, which says a size.
+    pub const XE: u16 = 0x7865;
 
-const XF: u16 = 0x7866;
+    pub const XF: u16 = 0x7866;
 
-const XG: u16 = 0x7867;
+    pub const XG: u16 = 0x7867;
 
-// The prices by which `xe` and `xf` say that there is no limit.
-const NO_UPPER_LIMIT: i64 = 9_999_999_999_999;
+    // The prices by which `xe` and `xf` say that there is no limit.
+    pub const NO_UPPER_LIMIT: i64 = 9_999_999_999_999;
 
-const NO_LOWER_LIMIT: i64 = -9_999_999_999_999;
+    pub const NO_LOWER_LIMIT: i64 = -9_999_999_999_999;
+}
 
 // A price, unless it is the mark that there is no limit.
 fn limit(price: i64, mark: i64) -> Says
@@ -165,13 +168,13 @@ fn said(characters: u16, price: i64, size: i64, level: u16, orders: i64, shown: 
     if is_price(characters) {
         return Says::Price { entry_price: price };
     }
-    if characters == XE {
-        return limit(price, NO_UPPER_LIMIT);
+    if characters == Says::XE {
+        return limit(price, Says::NO_UPPER_LIMIT);
     }
-    if characters == XF {
-        return limit(price, NO_LOWER_LIMIT);
+    if characters == Says::XF {
+        return limit(price, Says::NO_LOWER_LIMIT);
     }
-    if characters == XG {
+    if characters == Says::XG {
         return Says::Size { size };
     }
     if is_both(characters) {

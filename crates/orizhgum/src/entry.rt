@@ -15,19 +15,19 @@ use entries::Says;
 use entries::Step;
 
 // The seven things that an entry says, by number.
-const LEVEL: u32 = 1;
+pub(crate) const LEVEL: u32 = 1;
 
-const LEVEL_WITHOUT_PRICE: u32 = 2;
+pub(crate) const LEVEL_WITHOUT_PRICE: u32 = 2;
 
-const PRICE: u32 = 3;
+pub(crate) const PRICE: u32 = 3;
 
-const SIZE: u32 = 4;
+pub(crate) const SIZE: u32 = 4;
 
-const BOTH: u32 = 5;
+pub(crate) const BOTH: u32 = 5;
 
-const NO_LIMIT: u32 = 6;
+pub(crate) const NO_LIMIT: u32 = 6;
 
-const UNKNOWN: u32 = 7;
+pub(crate) const UNKNOWN: u32 = 7;
 
 // An entry without its price: its two type characters, the first the higher byte, which of the seven things it says, and the numbers that go with that; the others are zero.
 #[repr(C)]
@@ -59,7 +59,7 @@ pub struct QuantityAnswer {
     pub quantity: i64,
 }
 
-fn no_entry() -> Entry
+pub(crate) fn no_entry() -> Entry
     ensures { λ r. ⌜ r ≡ noEntry ⌝ }
 {
     Entry {
@@ -73,7 +73,7 @@ fn no_entry() -> Entry
 }
 
 // An entry that says at most a size.
-fn bare_entry(says: u32, characters: u16, size: i64) -> Entry
+pub(crate) fn bare_entry(says: u32, characters: u16, size: i64) -> Entry
     ensures { λ r. ⌜ r ≡ bare says characters size ⌝ }
 {
     Entry {

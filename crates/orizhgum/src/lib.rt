@@ -8,6 +8,7 @@ mod answers;
 pub mod arrivals;
 mod entry;
 mod groups;
+mod next;
 pub mod records;
 pub mod requested;
 mod written;
