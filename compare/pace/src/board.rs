@@ -127,8 +127,8 @@ mod calls {
         pub fn orizhgum_trade(body: *const u8, n: usize) -> Read<Trade>;
         pub fn orizhgum_snapshot(body: *const u8, n: usize) -> Read<Snapshot>;
         pub fn orizhgum_cursor(kind: u32, body: *const u8, n: usize) -> Cursor;
+        pub fn orizhgum_next(at: Cursor, kind: u32, body: *const u8, n: usize, price: *mut i64) -> StepAnswer;
         pub fn orizhgum_step(at: Cursor, kind: u32, body: *const u8, n: usize) -> StepAnswer;
-        pub fn orizhgum_step_price(at: Cursor, kind: u32, body: *const u8, n: usize, price: *mut i64) -> u32;
         pub fn orizhgum_set_up(channels: *const u16, n: usize) -> StartAnswer;
         pub fn orizhgum_tick_in(count: usize, numbers: &[u16; 8], highest: &mut [u64; 8], ended: &mut [u8; 8], counts: &mut [usize; 8], first: &mut [u64; 256], last: &mut [u64; 256], channel: u16, number: i64) -> u32;
         pub fn orizhgum_request_in(count: usize, numbers: &[u16; 8], highest: &[u64; 8], ended: &[u8; 8], counts: &[usize; 8], first: &[u64; 256], last: &[u64; 256], channel: u16, out: *mut u8, n: usize) -> WriteAnswer;
@@ -162,8 +162,8 @@ pub fn step(at: Cursor, kind: u32, body: &[u8]) -> StepAnswer {
     unsafe { calls::orizhgum_step(at, kind, body.as_ptr(), body.len()) }
 }
 
-pub fn step_price(at: Cursor, kind: u32, body: &[u8], price: &mut i64) -> u32 {
-    unsafe { calls::orizhgum_step_price(at, kind, body.as_ptr(), body.len(), price) }
+pub fn next(at: Cursor, kind: u32, body: &[u8], price: &mut i64) -> StepAnswer {
+    unsafe { calls::orizhgum_next(at, kind, body.as_ptr(), body.len(), price) }
 }
 
 pub fn set_up(channels: &[u16]) -> StartAnswer {

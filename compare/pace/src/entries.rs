@@ -53,22 +53,17 @@ fn step(at: Cursor, kind: u32, s: &[u8]) -> StepAnswer {
 }
 
 #[inline(never)]
-fn step_with_price(at: Cursor, kind: u32, s: &[u8]) -> (StepAnswer, Option<i64>) {
+fn next(at: Cursor, kind: u32, s: &[u8], price: &mut i64) -> StepAnswer {
     match found(at, kind, s) {
         Ok((e, next)) => {
-            let (entry, price) = told(e);
-            (StepAnswer { answer: 0, entry, next }, price)
+            let (entry, own) = told(e);
+            if let Some(own) = own {
+                *price = own;
+            }
+            StepAnswer { answer: 0, entry, next }
         }
-        Err(answer) => (StepAnswer { answer, next: at, ..StepAnswer::default() }, None),
+        Err(answer) => StepAnswer { answer, next: at, ..StepAnswer::default() },
     }
-}
-
-/// As a C host has it: the price by a second call where the entry says one.
-fn step_then_price(at: Cursor, kind: u32, s: &[u8]) -> (StepAnswer, Option<i64>) {
-    let a = board::step(at, kind, s);
-    let mut price = 0;
-    let priced = matches!(a.entry.says, 1 | 3 | 5) && board::step_price(at, kind, s, &mut price) == 0;
-    (a, priced.then_some(price))
 }
 
 /// All steps from the first entry on, each answer seen.
@@ -84,15 +79,22 @@ fn steps(s: &[u8], step: impl Fn(Cursor, u32, &[u8]) -> StepAnswer) -> u32 {
 }
 
 /// All steps with their prices; the sum of these.
-fn prices(s: &[u8], step: impl Fn(Cursor, u32, &[u8]) -> (StepAnswer, Option<i64>)) -> i64 {
+fn prices(s: &[u8], next: impl Fn(Cursor, u32, &[u8], &mut i64) -> StepAnswer) -> i64 {
     let mut at = black_box(Cursor { place: 69, left: 28 });
     let mut sum = 0;
     while at.left > 0 {
-        let a = step(at, black_box(SNAPSHOT), s);
-        at = black_box(&a).0.next;
-        sum += a.1.unwrap_or(0);
+        let mut price = 0;
+        let a = next(at, black_box(SNAPSHOT), s, &mut price);
+        at = black_box(&a).next;
+        sum += price;
     }
     sum
+}
+
+/// A step's answer, and what a number that held a mark holds then.
+fn marked(next: impl Fn(Cursor, u32, &[u8], &mut i64) -> StepAnswer, at: Cursor, s: &[u8]) -> (StepAnswer, i64) {
+    let mut price = i64::MIN;
+    (next(at, SNAPSHOT, s, &mut price), price)
 }
 
 pub fn run() {
@@ -100,11 +102,14 @@ pub fn run() {
     let mut at = board::cursor(SNAPSHOT, &s);
     assert_eq!(at, Cursor { place: 69, left: 28 });
     while at.left > 0 {
-        assert_eq!(step_then_price(at, SNAPSHOT, &s), step_with_price(at, SNAPSHOT, &s));
-        assert_eq!(board::step(at, SNAPSHOT, &s[..at.place + 31]), step(at, SNAPSHOT, &s[..at.place + 31]));
+        let short = &s[..at.place + 31];
+        assert_eq!(marked(board::next, at, &s), marked(next, at, &s));
+        assert_eq!(marked(board::next, at, short), marked(next, at, short));
+        assert_eq!(board::step(at, SNAPSHOT, short), step(at, SNAPSHOT, short));
         at = board::step(at, SNAPSHOT, &s).next;
     }
+    assert_eq!(marked(board::next, at, &s), marked(next, at, &s));
     assert_eq!(board::step(at, SNAPSHOT, &s), step(at, SNAPSHOT, &s));
     race("28 entries stepped through", 10_000, || steps(black_box(&s), board::step), || steps(black_box(&s), step));
-    race("28 entries stepped, with prices", 10_000, || prices(black_box(&s), step_then_price), || prices(black_box(&s), step_with_price));
+    race("28 entries stepped, with prices", 10_000, || prices(black_box(&s), board::next), || prices(black_box(&s), next));
 }
