@@ -12,23 +12,23 @@ use Rattle.record.specs.declared.Record.{Record}
 use Rattle.orizhgum.specs.Numbers.{answerNumber, unknownNumber}
 use Rattle.orizhgum.specs.declared.records.Heard.{Heard}
 
--- how a body of a type reads: plainly or refused by 4 or 5; a type that is not listed is unknown
+-- C3: how a body of a type reads: plainly or refused by 4 or 5; a type that is not listed is unknown
 abbrev pub judgedNumber : Listed → List ℕ → ℕ
 judgedNumber (listed m) s = answerNumber (judgedAs (listed m) s)
 judgedNumber unlisted s = unknownNumber
 
--- an answer's number, the record with it, and its texts in their room
+-- C4: an answer's number, the record with it, and its texts in their room
 pub record Shown : Type 0 where
   pub answer : ℕ
   pub numbers : Reading
   pub texts : List ℕ
 
--- the record of an answer; that of a refusal holds the numbers of no bytes, which are all 0
+-- C4: the record of an answer; that of a refusal holds the numbers of no bytes, which are all 0
 abbrev pub recordOf : Message → Answer Reading → Reading
 recordOf m (accepted r) = r
 recordOf m (refused n vs) = numbersAs m []
 
--- the body of a listed type
+-- C4: the body of a listed type
 unfoldable pub shown : Message → List ℕ → Shown
 shown m s =
     record {
@@ -46,6 +46,7 @@ abbrev pub readFrom : Answer Reading → List ℕ → List ℕ
 readFrom (accepted r) s = s
 readFrom (refused n vs) s = []
 
+-- an answer's number and texts, and how many bytes the numbers are read from
 abbrev pub heardOf : Told Reading → List ℕ → Heard
 heardOf t s =
     record { answer = answerNumber (t .answer); texts = t .texts; length = length (readFrom (t .answer) s) }

@@ -1,4 +1,4 @@
-// The C interface: exported functions over the crates below. Answer 0 is the plain one, 1 to 99 are document 01's refusals.
+// The C interface: exported functions over the crates below. Answer 0 is the plain one, 1 to 99 are the refusals.
 ghost use mathlib.Core.Path.{_≡_};
 ghost use Rattle.frame.specs.Framing.{framing, headerWidth, bodyLimit};
 ghost use Rattle.orizhgum.specs.Numbers.{frameAnswer};
