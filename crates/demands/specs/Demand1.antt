@@ -1,8 +1,7 @@
--- Demand 1: "Every public call ends and does nothing undefined for every input. Bad frames, channels, numbers and short buffers get
--- the refusal that document 01 names, in its order, and a refusal leaves the lent output and the gap record as they stood."
--- That every call ends and does nothing undefined is what the check of each crate proves. Here: for each call document 01's refusals in
--- its order, each with its condition (specs/Conditions); and of every answer that the call's contract allows (specs/Calls), that it is the first
--- refusal whose condition holds, and a success where none does, and that a refusal leaves things as they stood (specs/Rules).
+-- Demand 1: the refusals, in their order, and what they leave. That every call ends and does nothing undefined stands in specs/Checked.
+-- Here: for each call its refusals in their order, each with its condition (specs/Conditions); and of every answer that the call's contract
+-- allows (specs/Calls), that it is the first refusal whose condition holds, and a success where none does, and that a refusal leaves
+-- things as they stood (specs/Rules).
 -- Assumes nothing.
 use Prim.Native.Nat.{ℕ, _+_, _≤_, _<_}
 use mathlib.Core.Path.{_≡_}
@@ -38,21 +37,23 @@ use Rattle.demands.specs.Play.{recordOf}
 use Rattle.demands.specs.Rules.{Rule, _if_, Judged, OrNone, Kept, Every}
 use Rattle.demands.specs.Conditions.{L, SumDiffers, Lacks, Strays, behindOf, groupCount, entryCount, shownCount, entriesLeft, EntryLacks, EntryStrays, Exactly, NumberOut, SomeGroupOut, Falls, Keeps, NotIn, Low, Overfills, RequestShort}
 
--- "Order, reader: fewer than 8 bytes is 1; then 2, 1, 3, 4 for the whole body, 5": of a frame's bytes; of a type's number and a body; of
--- a frame with "the part of the lent bytes from place 8 to 8+L" as its body; and, at a cursor, of one entry
+-- R1, R2, J1: a frame's bytes
 abbrev pub frameRules : List ℕ → List Rule
 frameRules s = tooShort if (length s < 8) ∷ tooLong if (bodyLimit < L s) ∷ tooShort if (length s < 12 + L s) ∷ wrongSum if SumDiffers s ∷ []
 
+-- J2: a body of a type
 abbrev pub bodyRules : ℕ → List ℕ → List Rule
 bodyRules type b = notItsLayout if Lacks (named type) b ∷ outOfRange if Strays (named type) b ∷ []
 
+-- F6, J1: a frame's bytes and its body
 abbrev pub readerRules : List ℕ → List Rule
 readerRules s = frameRules s ++ bodyRules (beAt s 0 4) (part 8 (8 + L s) s)
 
+-- A6: one entry, at a cursor
 abbrev pub stepRules : ℕ → List ℕ → At → List Rule
 stepRules type b c = notItsLayout if EntryLacks (behindOf (named type)) b c ∷ outOfRange if EntryStrays (behindOf (named type)) b c ∷ []
 
--- "Writer: 5 for the type, then 4, 5, 2, 6"
+-- R2, R5, R6, J3: a record, texts and groups, for an output of room bytes
 abbrev pub writerRules : Reading → List ℕ → List ℕ → ℕ → List Rule
 writerRules (unknown type) ts gs room = outOfRange if Unit ∷ []
 writerRules (known m zs) ts gs room =
@@ -62,17 +63,19 @@ writerRules (known m zs) ts gs room =
     ∷ outputShort if (room < 12 + bodyLength m gs)
     ∷ []
 
--- "channel list empty, longer than 8 or not strictly ascending"
+-- T1, R10: a list of channels
 abbrev pub setUpRules : List ℕ → List Rule
 setUpRules numbers = malformed if (length numbers ≡ 0) ∷ malformed if (channelLimit < length numbers) ∷ malformed if Falls numbers ∷ []
 
--- "Arrival: 7, 8, 9. Request: 7, nothing missing, 6. A malformed tracker, 10, comes before all others, in later calls too."
+-- J4: an arrival on channel k
 abbrev pub arrivalRules : Tracker → ℕ → Event → List Rule
 arrivalRules t k e = malformed if (Keeps t → ⊥) ∷ noSuchChannel if NotIn t k ∷ numberTooLow if Low e ∷ tableFull if Overfills t k e ∷ []
 
+-- J5: a request for channel k, to an output of room bytes
 abbrev pub requestRules : Tracker → ℕ → ℕ → List Rule
 requestRules t k room = malformed if (Keeps t → ⊥) ∷ noSuchChannel if NotIn t k ∷ outputShort if RequestShort t k room ∷ []
 
+-- D12: every answer of every call
 pub record Demand1 : Type 1 where
   -- `frame::read`, `record::read_frame`, `record::read`, `record::judge`
   pub frame-read : (s : List ℕ) → Every frame.paper (FrameRead s) (λ a. Judged (frameRules s) a)
@@ -96,7 +99,7 @@ pub record Demand1 : Type 1 where
   pub write :
       (r : Record) (ts gs out after : List ℕ) → Every writer.paper (λ a. Write r ts gs out a after)
       (λ a. Kept (writerRules (paperRecord r) ts gs (length out)) a out after)
-  -- `Tracker::set_up`: "set-up refused gives the all-zero tracker, with no channel, which later calls refuse by 10"
+  -- J7: `Tracker::set_up`; what a refused one gives, later calls refuse
   pub set-up : (numbers : List ℕ) → Every starting.paper (SetsUp numbers) (λ a. Kept (setUpRules numbers) (a .said) (starting.blankOf []) (a .tracker))
   pub zero-breaks : Keeps (starting.blankOf []) → ⊥
   -- `Tracker::tick`, `Tracker::heartbeat`, and the gap record

@@ -1,7 +1,5 @@
--- Demand 2: "Reading and writing follow the exchange's Binary interface 1.02 as condensed in document 01. What is written reads back
--- as the same fields. A frame of a listed type that is read and written again has the same bytes where its body has no extra tail."
--- That a call follows document 01 is its promise, `paper r ≡ definition`. Here, of every answer that the contracts allow (specs/Calls):
--- what is accepted and what is written, and that nothing is lost on the way in either direction.
+-- Demand 2: reading and writing. That a call follows the rules is its promise, `paper r ≡ definition`. Here, of every answer that the
+-- contracts allow (specs/Calls): what is accepted and what is written, and that nothing is lost on the way in either direction.
 -- Assumes nothing.
 use Prim.Native.Nat.{ℕ, _+_, _≤_}
 use mathlib.Core.Path.{_≡_}
@@ -34,33 +32,36 @@ use Rattle.demands.specs.Demand1.{readerRules, writerRules}
 pub data Accepted {A : Type 0} : Answer A → Type 0 where
   with-value : (x : A) → Accepted (accepted x)
 
+-- no condition of some rules holds
 abbrev pub NoneOf : List Rule → Type 0
 NoneOf [] = Unit
 NoneOf (r ∷ rs) = (r .when → ⊥) × NoneOf rs
 
--- the reader accepts exactly the frames that none of 1 to 5 describes
+-- D21: the reader accepts exactly the frames that none of 1 to 5 describes
 abbrev pub Reader : Type 0
 Reader = (s : List ℕ) (x : FrameReading) → ReadFrame s x → Accepted (paperFrame x .answer) ↔ NoneOf (readerRules s)
 
--- ---- the writer answers "written" exactly where none of 5, 4, 5, 2, 6 holds
+-- ---- the writer
 
+-- D21: the writer writes exactly where none of 5, 4, 5, 2, 6 holds
 abbrev pub Writer : Type 0
 Writer =
     (r : Record) (ts gs out after : List ℕ) (a : Written) → Write r ts gs out a after →
     Accepted (paper a) ↔ NoneOf (writerRules (paperRecord r) ts gs (length out))
 
--- written: header, body by layout, checksum, and the old bytes behind them; refused: every byte as it stood
+-- W2, D21: written: header, body by layout, checksum, and the old bytes behind them; refused: every byte as it stood
 pub data Holds (out : List ℕ) : Answer ℕ → Reading → List ℕ → List ℕ → List ℕ → Type 0 where
   frame-first :
       {m : Message} {zs : List ℤ} {ts gs : List ℕ} {n : ℕ} → n ≡ 12 + bodyLength m gs →
       Holds out (accepted n) (known m zs) ts gs (frameOf (typeNumber m) (body m zs ts gs) ++ drop n out)
   as-it-stood : {n : ℕ} {vs : List ℕ} {x : Reading} {ts gs : List ℕ} → Holds out (refused n vs) x ts gs out
 
+-- D21: so after every write
 abbrev pub Output : Type 0
 Output =
     (r : Record) (ts gs out after : List ℕ) (a : Written) → Write r ts gs out a after → Holds out (paper a) (paperRecord r) ts gs after
 
--- ---- "What is written reads back as the same fields"
+-- ---- what is written reads back
 
 -- the numbers of a record are those that its fields hold, as they are in every record of the code
 abbrev pub Held : Reading → Type 0
@@ -75,17 +76,19 @@ pub record Reads (x : Reading) (ts gs : List ℕ) (n : ℕ) (s : List ℕ) : Typ
   pub fields : frameReading s ≡ told (accepted x) ts
   pub groups : groupsPart (frame .kind) (bodyOf headerWidth (accepted frame) s) ≡ gs
 
--- whatever stood in the output before, and so behind the frame
+-- D22: whatever stood in the output before, and so behind the frame
 abbrev pub ReadsBack : Type 0
 ReadsBack =
     (r : Record) (ts gs out after : List ℕ) (a : Written) (n : ℕ) → Held (paperRecord r) → Write r ts gs out a after →
     paper a ≡ accepted n → Reads (paperRecord r) ts gs n after
 
--- ---- "A frame of a listed type that is read and written again has the same bytes where its body has no extra tail"
+-- ---- what is read is written again as the same bytes
 
+-- L7: a body that ends with its layout
 abbrev pub NoTail : Message → List ℕ → Type 0
 NoTail m b = needs m b ≡ length b
 
+-- D23: a frame of a listed type without a tail, read and written again, is the same bytes
 abbrev pub SameBytes : Type 0
 SameBytes =
     (s out after : List ℕ) (f : Frame) (m : Message) (x : FrameReading) (r : Record) (a : Written) → Bytes s →
