@@ -7,11 +7,12 @@ ghost use Rattle.layout.specs.Layout as of;
 ghost use Rattle.record.specs.Paper.{commonValues};
 ghost use Rattle.bodies.specs.Body.{numbersIn};
 ghost use Rattle.bodies.specs.Parts.{stored};
-use crate::Size;
 use layout::amount;
+use layout::common;
 use layout::natural;
 use layout::price;
 use layout::quantity;
+use layout::snapshot;
 use layout::time;
 use record::Common;
 use wire::unsigned;
@@ -30,18 +31,18 @@ pub(crate) fn in_range(r: Common) -> bool
 pub fn put_common(r: Common, last: u32, texts: &[u8], out: &mut [u8])
     ensures { λ _. ⌜ now (out .exit) ≡ stored of.snapshot (commonValues r (pos last ∷ [])) (now (texts .entry)) (now (out .entry)) ⌝ }
 {
-    if texts.len() != Size::COMMON_TEXTS {
+    if texts.len() != common::TEXTS_SIZE {
         return;
     }
-    if out.len() != Size::COMMON {
+    if out.len() != snapshot::SIZE {
         return;
     }
-    wire::put_i64(out, 0, r.time);
-    wire::put2(out, 8, r.channel);
-    wire::copy(out, 10, texts);
-    wire::put_i64(out, 33, r.previous_close);
-    wire::put_i64(out, 41, r.trade_count);
-    wire::put_i64(out, 49, r.volume);
-    wire::put_i64(out, 57, r.amount);
-    wire::put4(out, 65, last);
+    wire::put_i64(out, common::TIME, r.time);
+    wire::put2(out, common::CHANNEL, r.channel);
+    wire::copy(out, common::STREAM, texts);
+    wire::put_i64(out, common::PREVIOUS_CLOSE, r.previous_close);
+    wire::put_i64(out, common::TRADE_COUNT, r.trade_count);
+    wire::put_i64(out, common::VOLUME, r.volume);
+    wire::put_i64(out, common::AMOUNT, r.amount);
+    wire::put4(out, snapshot::COUNT, last);
 }

@@ -6,11 +6,11 @@ ghost use Rattle.layout.specs.Paper.{paper};
 ghost use Rattle.record.specs.declared.Record.the-variants as variant;
 ghost use Rattle.bodies.specs.Body.{numbersIn};
 ghost use Rattle.bodies.specs.Parts.{numbersOf, judgedParts, stored};
-use crate::Size;
 use crate::groups::none;
 use layout::Refusal;
 use layout::Verdict;
 use layout::number;
+use layout::order;
 use layout::order_type;
 use layout::price;
 use layout::quantity;
@@ -33,7 +33,7 @@ fn in_range(r: Order) -> bool
 pub fn order_verdict(r: Order, texts: &[u8], groups: &[u8]) -> Verdict
     ensures { λ v. ⌜ paper v ≡ judgedParts of.order (numbersOf (variant.Order r)) (now (texts .entry)) (now (groups .entry)) ⌝ }
 {
-    if texts.len() != Size::ORDER_TEXTS {
+    if texts.len() != order::TEXTS_SIZE {
         return Verdict::Refused(Refusal::NotItsLayout);
     }
     none(groups).also(in_range(r))
@@ -43,18 +43,18 @@ pub fn order_verdict(r: Order, texts: &[u8], groups: &[u8]) -> Verdict
 pub fn put_order(r: Order, texts: &[u8], out: &mut [u8])
     ensures { λ _. ⌜ now (out .exit) ≡ stored of.order (numbersOf (variant.Order r)) (now (texts .entry)) (now (out .entry)) ⌝ }
 {
-    if texts.len() != Size::ORDER_TEXTS {
+    if texts.len() != order::TEXTS_SIZE {
         return;
     }
-    if out.len() != Size::ORDER {
+    if out.len() != order::SIZE {
         return;
     }
-    wire::put2(out, 0, r.channel);
-    wire::put_i64(out, 2, r.number);
-    wire::copy(out, 10, &texts[0..Size::ORDER_TEXTS]);
-    wire::put_i64(out, 25, r.order_price);
-    wire::put_i64(out, 33, r.quantity);
-    wire::put1(out, 41, r.side);
-    wire::put_i64(out, 42, r.time);
-    wire::put1(out, 50, r.order_type);
+    wire::put2(out, order::CHANNEL, r.channel);
+    wire::put_i64(out, order::NUMBER, r.number);
+    wire::copy(out, order::STREAM, &texts[0..order::TEXTS_SIZE]);
+    wire::put_i64(out, order::PRICE, r.order_price);
+    wire::put_i64(out, order::QUANTITY, r.quantity);
+    wire::put1(out, order::SIDE, r.side);
+    wire::put_i64(out, order::TIME, r.time);
+    wire::put1(out, order::ORDER_TYPE, r.order_type);
 }

@@ -3,14 +3,20 @@ ghost use mathlib.Core.Path.{_≡_};
 ghost use mathlib.Core.Bool.{true, false};
 ghost use Prim.Native.Nat.{_+_, _*_, _<_, _≤_};
 ghost use lib.ListN.{length};
+ghost use Rattle.layout.specs.Kind as kind;
 ghost use Rattle.layout.specs.Layout.{size, ranges};
 ghost use Rattle.layout.specs.Group as of;
 ghost use Rattle.layout.specs.Group.{fit, quantities, groupRanges, judgedFrom, judgedAll, placeFrom};
 ghost use Rattle.layout.specs.Paper.{meant, paper};
+use crate::entry;
+use crate::index_entry;
 use crate::range::entry_price;
 use crate::range::natural;
 use crate::range::quantity;
 use crate::range::yes_no;
+use crate::stream;
+use crate::switch;
+use crate::width::QUANTITY;
 
 // The groups of a statistics body, of a security status, of an index, and of a snapshot.
 pub enum Groups {
@@ -51,13 +57,13 @@ impl Verdict {
 
 // The bytes of a group's fields.
 fn width(g: Groups) -> usize
-    ensures { λ r. ⌜ (r ≡ size (meant g .fields)) × ((4 ≤ r) × (r ≤ 32)) ⌝ }
+    ensures { λ r. ⌜ (r ≡ size (meant g .fields)) × (kind.width kind.groupCount ≤ r) ⌝ }
 {
     match g {
-        Groups::Streams => 15,
-        Groups::Switches => 4,
-        Groups::IndexEntries => 10,
-        Groups::SnapshotEntries => 32,
+        Groups::Streams => stream::WIDTH,
+        Groups::Switches => switch::WIDTH,
+        Groups::IndexEntries => index_entry::WIDTH,
+        Groups::SnapshotEntries => entry::WIDTH,
     }
 }
 
@@ -70,7 +76,7 @@ fn shown(g: Groups, e: &[u8]) -> usize
         Groups::Streams => 0,
         Groups::Switches => 0,
         Groups::IndexEntries => 0,
-        Groups::SnapshotEntries => wire::be4(&e[0..32], 28) as usize,
+        Groups::SnapshotEntries => wire::be4(&e[0..entry::WIDTH], entry::SHOWN_COUNT) as usize,
     }
 }
 
@@ -81,24 +87,28 @@ fn fields_in(g: Groups, e: &[u8]) -> bool
 {
     match g {
         Groups::Streams => true,
-        Groups::Switches => yes_no(wire::be2(&e[0..4], 2)),
-        Groups::IndexEntries => entry_price(wire::be8(&e[0..10], 2)),
+        Groups::Switches => yes_no(wire::be2(&e[0..switch::WIDTH], switch::YES_NO)),
+        Groups::IndexEntries => entry_price(wire::be8(
+            &e[0..index_entry::WIDTH],
+            index_entry::PRICE,
+        )),
         Groups::SnapshotEntries => {
-            let f = &e[0..32];
-            entry_price(wire::be8(f, 2)) & (quantity(wire::be8(f, 10)) & natural(wire::be8(f, 20)))
+            let f = &e[0..entry::WIDTH];
+            entry_price(wire::be8(f, entry::PRICE))
+                & (quantity(wire::be8(f, entry::SIZE)) & natural(wire::be8(f, entry::ORDER_COUNT)))
         }
     }
 }
 
 // Whether n quantities that are there are in range.
 fn quantities_in(n: usize, s: &[u8], at: usize) -> bool
-    requires { ⌜ at + 8 * n ≤ length (now s) ⌝ }
+    requires { ⌜ at + kind.width kind.quantity * n ≤ length (now s) ⌝ }
     ensures { λ r. ⌜ r ≡ quantities n (now (s .entry)) at ⌝ }
 {
     let mut p = at;
     let mut left = n;
     while 0 < left {
-        let q = p + 8;
+        let q = p + QUANTITY;
         let e = &s[p..q];
         if quantity(wire::be8(e, 0)) {
             p = q;
@@ -142,10 +152,10 @@ fn walk(g: Groups, s: &[u8], at: usize, k: u32) -> Span
         let q = p + w;
         let e = &s[p..q];
         let m = shown(g, e);
-        if n - q < 8 * m {
+        if n - q < QUANTITY * m {
             return short(at);
         }
-        p = q + 8 * m;
+        p = q + QUANTITY * m;
         left -= 1;
     }
     Span { fits: true, end: p }
@@ -164,7 +174,7 @@ fn groups_in(g: Groups, s: &[u8], at: usize, k: u32) -> bool
         let e = &s[p..q];
         let m = shown(g, e);
         if fields_in(g, e) & quantities_in(m, s, q) {
-            p = q + 8 * m;
+            p = q + QUANTITY * m;
             left -= 1;
         } else {
             return false;

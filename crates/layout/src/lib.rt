@@ -1,6 +1,22 @@
-// Kinds of fields and their ranges, and the groups behind a count. Every public function is total.
+// Widths, offsets and sizes of the ten layouts, the ranges of their fields, and the groups behind a count. Every public function is total.
+pub mod channel_heartbeat;
+pub mod common;
+pub mod entry;
 mod group;
+pub mod heartbeat;
+pub mod index;
+pub mod index_entry;
+pub mod order;
 mod range;
+pub mod resend;
+pub mod security_status;
+pub mod snapshot;
+pub mod statistics;
+pub mod stream;
+pub mod switch;
+pub mod trade;
+pub mod volume_index;
+pub mod width;
 
 pub use group::Groups;
 pub use group::Refusal;
@@ -21,3 +37,6 @@ pub use range::side;
 pub use range::status;
 pub use range::time;
 pub use range::yes_no;
+
+// The room of a record's texts: those of a resend are the longest.
+pub const TEXT_ROOM: usize = resend::TEXTS_SIZE;

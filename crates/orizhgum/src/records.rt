@@ -8,6 +8,7 @@ ghost use Rattle.orizhgum.specs.Records.{judgedNumber, shown, shownAs, h
 use crate::answers::PLAIN;
 use crate::answers::UNKNOWN;
 use crate::answers::number;
+use layout::TEXT_ROOM;
 use layout::Verdict;
 use record::Answer;
 use record::ChannelHeartbeat;
@@ -38,7 +39,7 @@ pub extern "C" fn orizhgum_judge(kind: u32, body: &[u8]) -> u32
 // What a body is answered, its texts, and of how many of its bytes the numbers are read: all of them, or none where it is refused.
 pub(crate) struct Heard {
     answer: u32,
-    texts: [u8; 24],
+    texts: [u8; TEXT_ROOM],
     length: usize,
 }
 
@@ -67,7 +68,7 @@ fn hear(kind: u32, body: &[u8]) -> Heard
 pub struct OrderAnswer {
     pub answer: u32,
     pub numbers: Order,
-    pub texts: [u8; 24],
+    pub texts: [u8; TEXT_ROOM],
 }
 
 #[no_mangle]
@@ -87,7 +88,7 @@ pub extern "C" fn orizhgum_order(body: &[u8]) -> OrderAnswer
         Verdict::Refused(x) => OrderAnswer {
             answer: number(x),
             numbers: record::order_of(&body[0..0]),
-            texts: [0u8; 24],
+            texts: [0u8; TEXT_ROOM],
         },
     }
 }
@@ -96,7 +97,7 @@ pub extern "C" fn orizhgum_order(body: &[u8]) -> OrderAnswer
 pub struct TradeAnswer {
     pub answer: u32,
     pub numbers: Trade,
-    pub texts: [u8; 24],
+    pub texts: [u8; TEXT_ROOM],
 }
 
 #[no_mangle]
@@ -116,7 +117,7 @@ pub extern "C" fn orizhgum_trade(body: &[u8]) -> TradeAnswer
         Verdict::Refused(x) => TradeAnswer {
             answer: number(x),
             numbers: record::trade_of(&body[0..0]),
-            texts: [0u8; 24],
+            texts: [0u8; TEXT_ROOM],
         },
     }
 }
@@ -125,7 +126,7 @@ pub extern "C" fn orizhgum_trade(body: &[u8]) -> TradeAnswer
 pub struct ChannelHeartbeatAnswer {
     pub answer: u32,
     pub numbers: ChannelHeartbeat,
-    pub texts: [u8; 24],
+    pub texts: [u8; TEXT_ROOM],
 }
 
 #[no_mangle]
@@ -146,7 +147,7 @@ pub extern "C" fn orizhgum_channel_heartbeat(body: &[u8]) -> ChannelHeartbeatAns
 pub struct ResendAnswer {
     pub answer: u32,
     pub numbers: Resend,
-    pub texts: [u8; 24],
+    pub texts: [u8; TEXT_ROOM],
 }
 
 #[no_mangle]
@@ -167,7 +168,7 @@ pub extern "C" fn orizhgum_resend(body: &[u8]) -> ResendAnswer
 pub struct SnapshotAnswer {
     pub answer: u32,
     pub numbers: Snapshot,
-    pub texts: [u8; 24],
+    pub texts: [u8; TEXT_ROOM],
 }
 
 #[no_mangle]
@@ -188,7 +189,7 @@ pub extern "C" fn orizhgum_snapshot(body: &[u8]) -> SnapshotAnswer
 pub struct IndexAnswer {
     pub answer: u32,
     pub numbers: Index,
-    pub texts: [u8; 24],
+    pub texts: [u8; TEXT_ROOM],
 }
 
 #[no_mangle]
@@ -209,7 +210,7 @@ pub extern "C" fn orizhgum_index(body: &[u8]) -> IndexAnswer
 pub struct VolumeIndexAnswer {
     pub answer: u32,
     pub numbers: VolumeIndex,
-    pub texts: [u8; 24],
+    pub texts: [u8; TEXT_ROOM],
 }
 
 #[no_mangle]
@@ -230,7 +231,7 @@ pub extern "C" fn orizhgum_volume_index(body: &[u8]) -> VolumeIndexAnswer
 pub struct StatisticsAnswer {
     pub answer: u32,
     pub numbers: Statistics,
-    pub texts: [u8; 24],
+    pub texts: [u8; TEXT_ROOM],
 }
 
 #[no_mangle]
@@ -251,7 +252,7 @@ pub extern "C" fn orizhgum_statistics(body: &[u8]) -> StatisticsAnswer
 pub struct SecurityStatusAnswer {
     pub answer: u32,
     pub numbers: SecurityStatus,
-    pub texts: [u8; 24],
+    pub texts: [u8; TEXT_ROOM],
 }
 
 #[no_mangle]

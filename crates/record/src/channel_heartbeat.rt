@@ -14,6 +14,7 @@ use crate::refused;
 use crate::texts::no_texts;
 use layout::Refusal;
 use layout::Verdict;
+use layout::channel_heartbeat;
 use layout::natural;
 use layout::yes_no;
 
@@ -28,14 +29,15 @@ pub struct ChannelHeartbeat {
 fn in_range(body: &[u8]) -> bool
     ensures { λ r. ⌜ r ≡ ranges (fields of.channelHeartbeat) (now (body .entry)) 0 ⌝ }
 {
-    natural(wire::be8(body, 2)) & yes_no(wire::be2(body, 10))
+    natural(wire::be8(body, channel_heartbeat::LAST_NUMBER))
+        & yes_no(wire::be2(body, channel_heartbeat::END))
 }
 
 // 4 where the body lacks bytes, else 5 where a field is out of range.
 pub(crate) fn judge(body: &[u8]) -> Verdict
     ensures { λ r. ⌜ layout_paper.paper r ≡ judged of.channelHeartbeat (now (body .entry)) ⌝ }
 {
-    if body.len() < 12 {
+    if body.len() < channel_heartbeat::SIZE {
         return Verdict::Refused(Refusal::NotItsLayout);
     }
     Verdict::Accepted.also(in_range(body))
@@ -46,9 +48,9 @@ pub fn channel_heartbeat_of(body: &[u8]) -> ChannelHeartbeat
     ensures { λ r. ⌜ paperRecord (is.ChannelHeartbeat r) ≡ numbersAs of.channelHeartbeat (now (body .entry)) ⌝ }
 {
     ChannelHeartbeat {
-        channel: wire::be2(body, 0),
-        last_number: wire::i64_at(body, 2),
-        end: wire::be2(body, 10),
+        channel: wire::be2(body, channel_heartbeat::CHANNEL),
+        last_number: wire::i64_at(body, channel_heartbeat::LAST_NUMBER),
+        end: wire::be2(body, channel_heartbeat::END),
     }
 }
 

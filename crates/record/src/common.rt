@@ -4,6 +4,7 @@ ghost use mathlib.Core.List.{[]};
 ghost use Rattle.layout.specs.Layout.{commonPart, ranges, values};
 ghost use Rattle.record.specs.Paper.{commonValues};
 use layout::amount;
+use layout::common;
 use layout::natural;
 use layout::price;
 use layout::quantity;
@@ -23,21 +24,22 @@ pub struct Common {
 pub(crate) fn common_in(body: &[u8]) -> bool
     ensures { λ r. ⌜ r ≡ ranges commonPart (now (body .entry)) 0 ⌝ }
 {
-    time(wire::be8(body, 0))
-        & (price(wire::be8(body, 33))
-            & (natural(wire::be8(body, 41))
-                & (quantity(wire::be8(body, 49)) & amount(wire::be8(body, 57)))))
+    time(wire::be8(body, common::TIME))
+        & (price(wire::be8(body, common::PREVIOUS_CLOSE))
+            & (natural(wire::be8(body, common::TRADE_COUNT))
+                & (quantity(wire::be8(body, common::VOLUME))
+                    & amount(wire::be8(body, common::AMOUNT)))))
 }
 
 pub(crate) fn common_of(body: &[u8]) -> Common
     ensures { λ r. ⌜ commonValues r [] ≡ values commonPart (now (body .entry)) 0 ⌝ }
 {
     Common {
-        time: wire::i64_at(body, 0),
-        channel: wire::be2(body, 8),
-        previous_close: wire::i64_at(body, 33),
-        trade_count: wire::i64_at(body, 41),
-        volume: wire::i64_at(body, 49),
-        amount: wire::i64_at(body, 57),
+        time: wire::i64_at(body, common::TIME),
+        channel: wire::be2(body, common::CHANNEL),
+        previous_close: wire::i64_at(body, common::PREVIOUS_CLOSE),
+        trade_count: wire::i64_at(body, common::TRADE_COUNT),
+        volume: wire::i64_at(body, common::VOLUME),
+        amount: wire::i64_at(body, common::AMOUNT),
     }
 }

@@ -17,6 +17,8 @@ use crate::texts::gather;
 use layout::Groups;
 use layout::Refusal;
 use layout::Verdict;
+use layout::common;
+use layout::index;
 
 #[repr(C)]
 pub struct Index {
@@ -28,10 +30,15 @@ pub struct Index {
 pub(crate) fn judge(body: &[u8]) -> Verdict
     ensures { λ r. ⌜ layout_paper.paper r ≡ judged of.index (now (body .entry)) ⌝ }
 {
-    if body.len() < 69 {
+    if body.len() < index::SIZE {
         return Verdict::Refused(Refusal::NotItsLayout);
     }
-    layout::judge(Groups::IndexEntries, body, 69, wire::be4(body, 65)).also(common_in(body))
+    layout::judge(
+        Groups::IndexEntries,
+        body,
+        index::SIZE,
+        wire::be4(body, index::COUNT),
+    ).also(common_in(body))
 }
 
 // The numbers of some bytes as an index's, not judged.
@@ -40,7 +47,7 @@ pub fn index_of(body: &[u8]) -> Index
 {
     Index {
         common: common_of(body),
-        count: wire::be4(body, 65),
+        count: wire::be4(body, index::COUNT),
     }
 }
 
@@ -50,7 +57,7 @@ pub(crate) fn read(body: &[u8]) -> Reading
     match judge(body) {
         Verdict::Accepted => Reading {
             answer: Answer::Read(Record::Index(index_of(body))),
-            texts: gather(body, 10, 23, 0, 0),
+            texts: gather(body, common::STREAM, index::TEXTS_SIZE, 0, 0),
         },
         Verdict::Refused(x) => refused(x),
     }

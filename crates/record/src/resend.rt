@@ -15,8 +15,10 @@ use crate::texts::gather;
 use layout::Refusal;
 use layout::Verdict;
 use layout::natural;
+use layout::resend;
 use layout::resend_type;
 use layout::status;
+use layout::width;
 
 #[repr(C)]
 pub struct Resend {
@@ -31,16 +33,17 @@ pub struct Resend {
 fn in_range(body: &[u8]) -> bool
     ensures { λ r. ⌜ r ≡ ranges (fields of.resend) (now (body .entry)) 0 ⌝ }
 {
-    resend_type(wire::be1(body, 0))
-        & (natural(wire::be8(body, 3))
-            & (natural(wire::be8(body, 11)) & status(wire::be1(body, 27))))
+    resend_type(wire::be1(body, resend::RESEND_TYPE))
+        & (natural(wire::be8(body, resend::FIRST_NUMBER))
+            & (natural(wire::be8(body, resend::LAST_NUMBER))
+                & status(wire::be1(body, resend::STATUS))))
 }
 
 // 4 where the body lacks bytes, else 5 where a field is out of range.
 pub(crate) fn judge(body: &[u8]) -> Verdict
     ensures { λ r. ⌜ layout_paper.paper r ≡ judged of.resend (now (body .entry)) ⌝ }
 {
-    if body.len() < 44 {
+    if body.len() < resend::SIZE {
         return Verdict::Refused(Refusal::NotItsLayout);
     }
     Verdict::Accepted.also(in_range(body))
@@ -51,11 +54,11 @@ pub fn resend_of(body: &[u8]) -> Resend
     ensures { λ r. ⌜ paperRecord (is.Resend r) ≡ numbersAs of.resend (now (body .entry)) ⌝ }
 {
     Resend {
-        resend_type: wire::be1(body, 0),
-        channel: wire::be2(body, 1),
-        first_number: wire::i64_at(body, 3),
-        last_number: wire::i64_at(body, 11),
-        status: wire::be1(body, 27),
+        resend_type: wire::be1(body, resend::RESEND_TYPE),
+        channel: wire::be2(body, resend::CHANNEL),
+        first_number: wire::i64_at(body, resend::FIRST_NUMBER),
+        last_number: wire::i64_at(body, resend::LAST_NUMBER),
+        status: wire::be1(body, resend::STATUS),
     }
 }
 
@@ -65,7 +68,13 @@ pub(crate) fn read(body: &[u8]) -> Reading
     match judge(body) {
         Verdict::Accepted => Reading {
             answer: Answer::Read(Record::Resend(resend_of(body))),
-            texts: gather(body, 19, 8, 28, 16),
+            texts: gather(
+                body,
+                resend::NEWS_ID,
+                width::NEWS_ID,
+                resend::REJECT_TEXT,
+                width::REJECT_TEXT,
+            ),
         },
         Verdict::Refused(x) => refused(x),
     }

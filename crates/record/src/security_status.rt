@@ -20,6 +20,8 @@ use crate::texts::no_texts;
 use layout::Groups;
 use layout::Refusal;
 use layout::Verdict;
+use layout::security_status;
+use layout::switch;
 use layout::time;
 
 #[repr(C)]
@@ -39,17 +41,22 @@ pub struct Switch {
 fn in_range(body: &[u8]) -> bool
     ensures { λ r. ⌜ r ≡ ranges (fields of.securityStatus) (now (body .entry)) 0 ⌝ }
 {
-    time(wire::be8(body, 0))
+    time(wire::be8(body, security_status::TIME))
 }
 
 // 4 where the body lacks bytes, else 5 where a field is out of range.
 pub(crate) fn judge(body: &[u8]) -> Verdict
     ensures { λ r. ⌜ layout_paper.paper r ≡ judged of.securityStatus (now (body .entry)) ⌝ }
 {
-    if body.len() < 34 {
+    if body.len() < security_status::SIZE {
         return Verdict::Refused(Refusal::NotItsLayout);
     }
-    layout::judge(Groups::Switches, body, 34, wire::be4(body, 30)).also(in_range(body))
+    layout::judge(
+        Groups::Switches,
+        body,
+        security_status::SIZE,
+        wire::be4(body, security_status::COUNT),
+    ).also(in_range(body))
 }
 
 // The numbers of some bytes as a security status's, not judged.
@@ -57,9 +64,9 @@ pub fn security_status_of(body: &[u8]) -> SecurityStatus
     ensures { λ r. ⌜ paperRecord (is.SecurityStatus r) ≡ numbersAs of.securityStatus (now (body .entry)) ⌝ }
 {
     SecurityStatus {
-        time: wire::i64_at(body, 0),
-        channel: wire::be2(body, 8),
-        count: wire::be4(body, 30),
+        time: wire::i64_at(body, security_status::TIME),
+        channel: wire::be2(body, security_status::CHANNEL),
+        count: wire::be4(body, security_status::COUNT),
     }
 }
 
@@ -69,7 +76,13 @@ pub(crate) fn read(body: &[u8]) -> Reading
     match judge(body) {
         Verdict::Accepted => Reading {
             answer: Answer::Read(Record::SecurityStatus(security_status_of(body))),
-            texts: gather(body, 10, 20, 0, 0),
+            texts: gather(
+                body,
+                security_status::SECURITY,
+                security_status::TEXTS_SIZE,
+                0,
+                0,
+            ),
         },
         Verdict::Refused(x) => refused(x),
     }
@@ -80,11 +93,11 @@ pub(crate) fn switch_of(body: &[u8], i: u32) -> GroupReading
     requires { ⌜ judged of.securityStatus (now body) ≡ accepted tt ⌝ }
     ensures { λ r. ⌜ paperGroup r ≡ groupAs of.securityStatus (now (body .entry)) i ⌝ }
 {
-    if i < wire::be4(body, 30) {
-        let at = 34 + 4 * (i as usize);
+    if i < wire::be4(body, security_status::COUNT) {
+        let at = security_status::SIZE + switch::WIDTH * (i as usize);
         let switch = Switch {
             switch_type: wire::be2(body, at),
-            yes_no: wire::be2(body, at + 2),
+            yes_no: wire::be2(body, at + switch::YES_NO),
         };
         GroupReading {
             answer: GroupAnswer::Switch(switch),

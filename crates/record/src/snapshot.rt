@@ -17,6 +17,8 @@ use crate::texts::gather;
 use layout::Groups;
 use layout::Refusal;
 use layout::Verdict;
+use layout::common;
+use layout::snapshot;
 
 #[repr(C)]
 pub struct Snapshot {
@@ -28,10 +30,15 @@ pub struct Snapshot {
 pub(crate) fn judge(body: &[u8]) -> Verdict
     ensures { λ r. ⌜ layout_paper.paper r ≡ judged of.snapshot (now (body .entry)) ⌝ }
 {
-    if body.len() < 69 {
+    if body.len() < snapshot::SIZE {
         return Verdict::Refused(Refusal::NotItsLayout);
     }
-    layout::judge(Groups::SnapshotEntries, body, 69, wire::be4(body, 65)).also(common_in(body))
+    layout::judge(
+        Groups::SnapshotEntries,
+        body,
+        snapshot::SIZE,
+        wire::be4(body, snapshot::COUNT),
+    ).also(common_in(body))
 }
 
 // The numbers of some bytes as a snapshot's, not judged.
@@ -40,7 +47,7 @@ pub fn snapshot_of(body: &[u8]) -> Snapshot
 {
     Snapshot {
         common: common_of(body),
-        count: wire::be4(body, 65),
+        count: wire::be4(body, snapshot::COUNT),
     }
 }
 
@@ -50,7 +57,7 @@ pub(crate) fn read(body: &[u8]) -> Reading
     match judge(body) {
         Verdict::Accepted => Reading {
             answer: Answer::Read(Record::Snapshot(snapshot_of(body))),
-            texts: gather(body, 10, 23, 0, 0),
+            texts: gather(body, common::STREAM, snapshot::TEXTS_SIZE, 0, 0),
         },
         Verdict::Refused(x) => refused(x),
     }

@@ -20,7 +20,10 @@ use crate::texts::no_texts;
 use layout::Groups;
 use layout::Refusal;
 use layout::Verdict;
+use layout::statistics;
+use layout::stream;
 use layout::time;
+use layout::width;
 
 #[repr(C)]
 pub struct Statistics {
@@ -38,17 +41,22 @@ pub struct Stream {
 fn in_range(body: &[u8]) -> bool
     ensures { λ r. ⌜ r ≡ ranges (fields of.statistics) (now (body .entry)) 0 ⌝ }
 {
-    time(wire::be8(body, 0))
+    time(wire::be8(body, statistics::TIME))
 }
 
 // 4 where the body lacks bytes, else 5 where a field is out of range.
 pub(crate) fn judge(body: &[u8]) -> Verdict
     ensures { λ r. ⌜ layout_paper.paper r ≡ judged of.statistics (now (body .entry)) ⌝ }
 {
-    if body.len() < 14 {
+    if body.len() < statistics::SIZE {
         return Verdict::Refused(Refusal::NotItsLayout);
     }
-    layout::judge(Groups::Streams, body, 14, wire::be4(body, 10)).also(in_range(body))
+    layout::judge(
+        Groups::Streams,
+        body,
+        statistics::SIZE,
+        wire::be4(body, statistics::COUNT),
+    ).also(in_range(body))
 }
 
 // The numbers of some bytes as a statistics's, not judged.
@@ -56,9 +64,9 @@ pub fn statistics_of(body: &[u8]) -> Statistics
     ensures { λ r. ⌜ paperRecord (is.Statistics r) ≡ numbersAs of.statistics (now (body .entry)) ⌝ }
 {
     Statistics {
-        time: wire::i64_at(body, 0),
-        channel: wire::be2(body, 8),
-        count: wire::be4(body, 10),
+        time: wire::i64_at(body, statistics::TIME),
+        channel: wire::be2(body, statistics::CHANNEL),
+        count: wire::be4(body, statistics::COUNT),
     }
 }
 
@@ -79,14 +87,14 @@ pub(crate) fn stream_of(body: &[u8], i: u32) -> GroupReading
     requires { ⌜ judged of.statistics (now body) ≡ accepted tt ⌝ }
     ensures { λ r. ⌜ paperGroup r ≡ groupAs of.statistics (now (body .entry)) i ⌝ }
 {
-    if i < wire::be4(body, 10) {
-        let at = 14 + 15 * (i as usize);
+    if i < wire::be4(body, statistics::COUNT) {
+        let at = statistics::SIZE + stream::WIDTH * (i as usize);
         let stream = Stream {
-            stock_number: wire::be4(body, at + 3),
+            stock_number: wire::be4(body, at + stream::STOCK_NUMBER),
         };
         GroupReading {
             answer: GroupAnswer::Stream(stream),
-            texts: gather(body, at, 3, at + 7, 8),
+            texts: gather(body, at, width::STREAM, at + stream::PHASE, width::PHASE),
         }
     } else {
         no_group()

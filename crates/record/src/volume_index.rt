@@ -16,6 +16,8 @@ use crate::refused;
 use crate::texts::gather;
 use layout::Refusal;
 use layout::Verdict;
+use layout::common;
+use layout::volume_index;
 
 #[repr(C)]
 pub struct VolumeIndex {
@@ -27,7 +29,7 @@ pub struct VolumeIndex {
 pub(crate) fn judge(body: &[u8]) -> Verdict
     ensures { λ r. ⌜ layout_paper.paper r ≡ judged of.volumeIndex (now (body .entry)) ⌝ }
 {
-    if body.len() < 69 {
+    if body.len() < volume_index::SIZE {
         return Verdict::Refused(Refusal::NotItsLayout);
     }
     Verdict::Accepted.also(common_in(body))
@@ -39,7 +41,7 @@ pub fn volume_index_of(body: &[u8]) -> VolumeIndex
 {
     VolumeIndex {
         common: common_of(body),
-        stock_number: wire::be4(body, 65),
+        stock_number: wire::be4(body, volume_index::STOCK_NUMBER),
     }
 }
 
@@ -49,7 +51,7 @@ pub(crate) fn read(body: &[u8]) -> Reading
     match judge(body) {
         Verdict::Accepted => Reading {
             answer: Answer::Read(Record::VolumeIndex(volume_index_of(body))),
-            texts: gather(body, 10, 23, 0, 0),
+            texts: gather(body, common::STREAM, volume_index::TEXTS_SIZE, 0, 0),
         },
         Verdict::Refused(x) => refused(x),
     }

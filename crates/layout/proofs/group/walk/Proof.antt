@@ -29,7 +29,7 @@ onward : (c : tie.After-shown Inv-loop μ-loop) → c .before .before .before .b
 onward c = let m = shown c in omega arith
 
 loop-holds : tie.Need-loop-holds Inv-loop μ-loop
-loop-holds c = (refl, (c .width .ensures .0, (c .width .ensures .1 .0, (refl, refl))))
+loop-holds c = (refl, (c .width .ensures .0, (c .width .ensures .1, (refl, refl))))
 
 shown-requires : tie.Need-shown-requires Inv-loop μ-loop
 shown-requires c κs =
