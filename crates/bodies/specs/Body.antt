@@ -10,8 +10,8 @@ use mir.Syntax.{w64}
 use mir.Val.{SFits, ofZ}
 use Rattle.wire.specs.Bytes.{digits}
 use Rattle.layout.specs.Kind.{Kind, text, Text, Form, unsigned, signed, written, form, bytes, characters, ranged}
-use Rattle.layout.specs.Layout.{Message, fields, Group, Behind, nothing, groups, entries, behind, size, textsBehind}
-use Rattle.layout.specs.Group.{fit, place, groupRanges, group}
+use Rattle.layout.specs.Layout.{Message, fields, Behind, nothing, groups, entries, behind, size, textsBehind}
+use Rattle.layout.specs.Group.{even, groupRanges, group}
 
 -- ---- numbers
 
@@ -94,10 +94,6 @@ countIn (entries e) zs = bits (last zs)
 -- W4: how many groups a record of a type states
 abbrev pub stated : Message → List ℤ → ℕ
 stated m zs = countIn (behind m) zs
-
--- W4: whether groups come out even with the count, shown counts included
-unfoldable pub even : Group → List ℕ → ℕ → Bool
-even g gs n = fit g gs 0 n && eqb (place g gs 0 n) (length gs)
 
 -- W4: texts and groups are just the type's; a type without them takes none
 abbrev pub exact : Message → List ℤ → List ℕ → List ℕ → Bool

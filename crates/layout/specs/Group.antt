@@ -56,9 +56,13 @@ verdict there inRange =
 unfoldable pub judgedFrom : Group → List ℕ → ℕ → ℕ → Answer Unit
 judgedFrom g s at k = verdict (fit g s at k) (groupRanges g s at k)
 
+-- W4: whether bytes are k groups, shown quantities included, and nothing else
+unfoldable pub even : Group → List ℕ → ℕ → Bool
+even g s k = fit g s 0 k && eqb (place g s 0 k) (length s)
+
 -- W4: bytes that are to be k groups and nothing else
 unfoldable pub judgedAll : Group → List ℕ → ℕ → Answer Unit
-judgedAll g s k = verdict (fit g s 0 k && eqb (place g s 0 k) (length s)) (groupRanges g s 0 k)
+judgedAll g s k = verdict (even g s k) (groupRanges g s 0 k)
 
 -- a verdict on groups, and the fields in front of them: 5 where one of these is out of range
 abbrev pub also : Bool → Answer Unit → Answer Unit
