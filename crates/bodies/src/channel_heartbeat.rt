@@ -10,8 +10,8 @@ use crate::groups::none;
 use layout::Refusal;
 use layout::Verdict;
 use layout::channel_heartbeat;
-use layout::natural;
-use layout::yes_no;
+use layout::natural_in_range;
+use layout::yes_no_in_range;
 use record::ChannelHeartbeat;
 use wire::unsigned;
 
@@ -19,7 +19,7 @@ use wire::unsigned;
 fn in_range(r: ChannelHeartbeat) -> bool
     ensures { λ a. ⌜ a ≡ numbersIn (fields of.channelHeartbeat) (numbersOf (variant.ChannelHeartbeat r)) ⌝ }
 {
-    natural(unsigned(r.last_number)) & yes_no(r.end)
+    natural_in_range(unsigned(r.last_number)) & yes_no_in_range(r.end)
 }
 
 // 4 for texts or groups that aren't exactly its own, then 5 for a number out of range.

@@ -7,13 +7,13 @@ ghost use Rattle.layout.specs.Layout as of;
 ghost use Rattle.record.specs.Paper.{commonValues};
 ghost use Rattle.bodies.specs.Body.{numbersIn};
 ghost use Rattle.bodies.specs.Parts.{stored};
-use layout::amount;
+use layout::amount_in_range;
 use layout::common;
-use layout::natural;
-use layout::price;
-use layout::quantity;
+use layout::natural_in_range;
+use layout::price_in_range;
+use layout::quantity_in_range;
 use layout::snapshot;
-use layout::time;
+use layout::time_in_range;
 use record::Common;
 use wire::unsigned;
 
@@ -21,10 +21,10 @@ use wire::unsigned;
 pub(crate) fn in_range(r: Common) -> bool
     ensures { λ a. ⌜ a ≡ numbersIn commonPart (commonValues r []) ⌝ }
 {
-    time(unsigned(r.time))
-        & (price(unsigned(r.previous_close))
-            & (natural(unsigned(r.trade_count))
-                & (quantity(unsigned(r.volume)) & amount(unsigned(r.amount)))))
+    time_in_range(unsigned(r.time))
+        & (price_in_range(unsigned(r.previous_close))
+            & (natural_in_range(unsigned(r.trade_count))
+                & (quantity_in_range(unsigned(r.volume)) & amount_in_range(unsigned(r.amount)))))
 }
 
 // The fields, one behind the other, with a count or a stock number as the last, where texts and output have just their lengths.

@@ -9,13 +9,13 @@ ghost use Rattle.bodies.specs.Parts.{numbersOf, judgedParts, stored};
 use crate::groups::none;
 use layout::Refusal;
 use layout::Verdict;
-use layout::number;
+use layout::number_in_range;
 use layout::order;
-use layout::order_type;
-use layout::price;
-use layout::quantity;
-use layout::side;
-use layout::time;
+use layout::order_type_in_range;
+use layout::price_in_range;
+use layout::quantity_in_range;
+use layout::side_in_range;
+use layout::time_in_range;
 use record::Order;
 use wire::unsigned;
 
@@ -23,10 +23,11 @@ use wire::unsigned;
 fn in_range(r: Order) -> bool
     ensures { λ a. ⌜ a ≡ numbersIn (fields of.order) (numbersOf (variant.Order r)) ⌝ }
 {
-    number(unsigned(r.number))
-        & (price(unsigned(r.order_price))
-            & (quantity(unsigned(r.quantity))
-                & (side(r.side) & (time(unsigned(r.time)) & order_type(r.order_type)))))
+    number_in_range(unsigned(r.number))
+        & (price_in_range(unsigned(r.order_price))
+            & (quantity_in_range(unsigned(r.quantity))
+                & (side_in_range(r.side)
+                    & (time_in_range(unsigned(r.time)) & order_type_in_range(r.order_type)))))
 }
 
 // 4 for texts or groups that aren't exactly its own, then 5 for a number out of range.

@@ -9,10 +9,10 @@ ghost use Rattle.bodies.specs.Parts.{numbersOf, judgedParts, stored};
 use crate::groups::none;
 use layout::Refusal;
 use layout::Verdict;
-use layout::natural;
+use layout::natural_in_range;
 use layout::resend;
-use layout::resend_type;
-use layout::status;
+use layout::resend_type_in_range;
+use layout::status_in_range;
 use layout::width;
 use record::Resend;
 use wire::unsigned;
@@ -21,9 +21,9 @@ use wire::unsigned;
 fn in_range(r: Resend) -> bool
     ensures { λ a. ⌜ a ≡ numbersIn (fields of.resend) (numbersOf (variant.Resend r)) ⌝ }
 {
-    resend_type(r.resend_type)
-        & (natural(unsigned(r.first_number))
-            & (natural(unsigned(r.last_number)) & status(r.status)))
+    resend_type_in_range(r.resend_type)
+        & (natural_in_range(unsigned(r.first_number))
+            & (natural_in_range(unsigned(r.last_number)) & status_in_range(r.status)))
 }
 
 // 4 for texts or groups that aren't exactly its own, then 5 for a number out of range.

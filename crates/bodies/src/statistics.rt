@@ -11,7 +11,7 @@ use layout::Refusal;
 use layout::Verdict;
 use layout::judge_all;
 use layout::statistics;
-use layout::time;
+use layout::time_in_range;
 use record::Statistics;
 use wire::unsigned;
 
@@ -19,7 +19,7 @@ use wire::unsigned;
 fn in_range(r: Statistics) -> bool
     ensures { λ a. ⌜ a ≡ numbersIn (fields of.statistics) (numbersOf (variant.Statistics r)) ⌝ }
 {
-    time(unsigned(r.time))
+    time_in_range(unsigned(r.time))
 }
 
 // 4 for texts or groups that aren't exactly its own, then 5 for a number out of range.

@@ -9,12 +9,12 @@ ghost use Rattle.bodies.specs.Parts.{numbersOf, judgedParts, stored};
 use crate::groups::none;
 use layout::Refusal;
 use layout::Verdict;
-use layout::execution;
-use layout::natural;
-use layout::number;
-use layout::price;
-use layout::quantity;
-use layout::time;
+use layout::execution_in_range;
+use layout::natural_in_range;
+use layout::number_in_range;
+use layout::price_in_range;
+use layout::quantity_in_range;
+use layout::time_in_range;
 use layout::trade;
 use layout::width;
 use record::Trade;
@@ -24,12 +24,12 @@ use wire::unsigned;
 fn in_range(r: Trade) -> bool
     ensures { λ a. ⌜ a ≡ numbersIn (fields of.trade) (numbersOf (variant.Trade r)) ⌝ }
 {
-    number(unsigned(r.number))
-        & (natural(unsigned(r.bid_number))
-            & (natural(unsigned(r.offer_number))
-                & (price(unsigned(r.trade_price))
-                    & (quantity(unsigned(r.quantity))
-                        & (execution(r.execution) & time(unsigned(r.time)))))))
+    number_in_range(unsigned(r.number))
+        & (natural_in_range(unsigned(r.bid_number))
+            & (natural_in_range(unsigned(r.offer_number))
+                & (price_in_range(unsigned(r.trade_price))
+                    & (quantity_in_range(unsigned(r.quantity))
+                        & (execution_in_range(r.execution) & time_in_range(unsigned(r.time)))))))
 }
 
 // 4 for texts or groups that aren't exactly its own, then 5 for a number out of range.

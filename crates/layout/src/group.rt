@@ -10,10 +10,10 @@ ghost use Rattle.layout.specs.Group.{fit, quantities, groupRanges, judge
 ghost use Rattle.layout.specs.Paper.{meant, paper};
 use crate::entry;
 use crate::index_entry;
-use crate::range::entry_price;
-use crate::range::natural;
-use crate::range::quantity;
-use crate::range::yes_no;
+use crate::range::entry_price_in_range;
+use crate::range::natural_in_range;
+use crate::range::quantity_in_range;
+use crate::range::yes_no_in_range;
 use crate::stream;
 use crate::switch;
 use crate::width::QUANTITY;
@@ -87,15 +87,16 @@ fn fields_in(g: Groups, e: &[u8]) -> bool
 {
     match g {
         Groups::Streams => true,
-        Groups::Switches => yes_no(wire::be2(&e[0..switch::WIDTH], switch::YES_NO)),
-        Groups::IndexEntries => entry_price(wire::be8(
+        Groups::Switches => yes_no_in_range(wire::be2(&e[0..switch::WIDTH], switch::YES_NO)),
+        Groups::IndexEntries => entry_price_in_range(wire::be8(
             &e[0..index_entry::WIDTH],
             index_entry::PRICE,
         )),
         Groups::SnapshotEntries => {
             let f = &e[0..entry::WIDTH];
-            entry_price(wire::be8(f, entry::PRICE))
-                & (quantity(wire::be8(f, entry::SIZE)) & natural(wire::be8(f, entry::ORDER_COUNT)))
+            entry_price_in_range(wire::be8(f, entry::PRICE))
+                & (quantity_in_range(wire::be8(f, entry::SIZE))
+                    & natural_in_range(wire::be8(f, entry::ORDER_COUNT)))
         }
     }
 }
@@ -110,7 +111,7 @@ fn quantities_in(n: usize, s: &[u8], at: usize) -> bool
     while 0 < left {
         let q = p + QUANTITY;
         let e = &s[p..q];
-        if quantity(wire::be8(e, 0)) {
+        if quantity_in_range(wire::be8(e, 0)) {
             p = q;
             left -= 1;
         } else {
@@ -120,7 +121,7 @@ fn quantities_in(n: usize, s: &[u8], at: usize) -> bool
     true
 }
 
-// Whether the bytes have k groups from a place on, and where these end; that place itself where they lack some.
+// Whether the bytes have k groups from an offset on, and where these end; that offset itself where they lack some.
 struct Span {
     fits: bool,
     end: usize,
@@ -199,7 +200,7 @@ fn judged(g: Groups, s: &[u8], at: usize, k: u32, there: bool) -> Verdict
     }
 }
 
-// Judges k groups from a place on: 4 where the bytes lack some, else 5 where a field or a shown quantity is out of range.
+// Judges k groups from an offset on: 4 where the bytes lack some, else 5 where a field or a shown quantity is out of range.
 pub fn judge(g: Groups, s: &[u8], at: usize, k: u32) -> Verdict
     ensures { λ r. ⌜ paper r ≡ judgedFrom (meant g) (now (s .entry)) at k ⌝ }
 {
@@ -215,7 +216,7 @@ pub fn judge_all(g: Groups, s: &[u8], k: u32) -> Verdict
     judged(g, s, 0, k, w.fits & (w.end == s.len()))
 }
 
-// Where group i stands, counted from a place on; that place itself where the bytes lack one before it.
+// Where group i stands, counted from an offset on; that offset itself where the bytes lack one before it.
 pub fn place(g: Groups, s: &[u8], at: usize, i: u32) -> usize
     ensures { λ r. ⌜ r ≡ placeFrom (meant g) (now (s .entry)) at i ⌝ }
 {

@@ -15,8 +15,8 @@ use crate::texts::no_texts;
 use layout::Refusal;
 use layout::Verdict;
 use layout::channel_heartbeat;
-use layout::natural;
-use layout::yes_no;
+use layout::natural_in_range;
+use layout::yes_no_in_range;
 
 #[repr(C)]
 pub struct ChannelHeartbeat {
@@ -29,8 +29,8 @@ pub struct ChannelHeartbeat {
 fn in_range(body: &[u8]) -> bool
     ensures { λ r. ⌜ r ≡ ranges (fields of.channelHeartbeat) (now (body .entry)) 0 ⌝ }
 {
-    natural(wire::be8(body, channel_heartbeat::LAST_NUMBER))
-        & yes_no(wire::be2(body, channel_heartbeat::END))
+    natural_in_range(wire::be8(body, channel_heartbeat::LAST_NUMBER))
+        & yes_no_in_range(wire::be2(body, channel_heartbeat::END))
 }
 
 // 4 where the body lacks bytes, else 5 where a field is out of range.

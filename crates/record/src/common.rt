@@ -3,12 +3,12 @@ ghost use mathlib.Core.Path.{_≡_};
 ghost use mathlib.Core.List.{[]};
 ghost use Rattle.layout.specs.Layout.{commonPart, ranges, values};
 ghost use Rattle.record.specs.Paper.{commonValues};
-use layout::amount;
+use layout::amount_in_range;
 use layout::common;
-use layout::natural;
-use layout::price;
-use layout::quantity;
-use layout::time;
+use layout::natural_in_range;
+use layout::price_in_range;
+use layout::quantity_in_range;
+use layout::time_in_range;
 
 #[repr(C)]
 pub struct Common {
@@ -24,11 +24,11 @@ pub struct Common {
 pub(crate) fn common_in(body: &[u8]) -> bool
     ensures { λ r. ⌜ r ≡ ranges commonPart (now (body .entry)) 0 ⌝ }
 {
-    time(wire::be8(body, common::TIME))
-        & (price(wire::be8(body, common::PREVIOUS_CLOSE))
-            & (natural(wire::be8(body, common::TRADE_COUNT))
-                & (quantity(wire::be8(body, common::VOLUME))
-                    & amount(wire::be8(body, common::AMOUNT)))))
+    time_in_range(wire::be8(body, common::TIME))
+        & (price_in_range(wire::be8(body, common::PREVIOUS_CLOSE))
+            & (natural_in_range(wire::be8(body, common::TRADE_COUNT))
+                & (quantity_in_range(wire::be8(body, common::VOLUME))
+                    & amount_in_range(wire::be8(body, common::AMOUNT)))))
 }
 
 pub(crate) fn common_of(body: &[u8]) -> Common

@@ -18,13 +18,13 @@ use crate::texts::gather;
 use crate::texts::no_texts;
 use layout::Refusal;
 use layout::Verdict;
-use layout::number;
+use layout::number_in_range;
 use layout::order;
-use layout::order_type;
-use layout::price;
-use layout::quantity;
-use layout::side;
-use layout::time;
+use layout::order_type_in_range;
+use layout::price_in_range;
+use layout::quantity_in_range;
+use layout::side_in_range;
+use layout::time_in_range;
 
 #[repr(C)]
 pub struct Order {
@@ -41,12 +41,12 @@ pub struct Order {
 fn in_range(body: &[u8]) -> bool
     ensures { λ r. ⌜ r ≡ ranges (fields of.order) (now (body .entry)) 0 ⌝ }
 {
-    number(wire::be8(body, order::NUMBER))
-        & (price(wire::be8(body, order::PRICE))
-            & (quantity(wire::be8(body, order::QUANTITY))
-                & (side(wire::be1(body, order::SIDE))
-                    & (time(wire::be8(body, order::TIME))
-                        & order_type(wire::be1(body, order::ORDER_TYPE))))))
+    number_in_range(wire::be8(body, order::NUMBER))
+        & (price_in_range(wire::be8(body, order::PRICE))
+            & (quantity_in_range(wire::be8(body, order::QUANTITY))
+                & (side_in_range(wire::be1(body, order::SIDE))
+                    & (time_in_range(wire::be8(body, order::TIME))
+                        & order_type_in_range(wire::be1(body, order::ORDER_TYPE))))))
 }
 
 // 4 where the body lacks bytes, else 5 where a field is out of range.

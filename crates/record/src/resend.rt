@@ -14,10 +14,10 @@ use crate::refused;
 use crate::texts::gather;
 use layout::Refusal;
 use layout::Verdict;
-use layout::natural;
+use layout::natural_in_range;
 use layout::resend;
-use layout::resend_type;
-use layout::status;
+use layout::resend_type_in_range;
+use layout::status_in_range;
 use layout::width;
 
 #[repr(C)]
@@ -33,10 +33,10 @@ pub struct Resend {
 fn in_range(body: &[u8]) -> bool
     ensures { λ r. ⌜ r ≡ ranges (fields of.resend) (now (body .entry)) 0 ⌝ }
 {
-    resend_type(wire::be1(body, resend::RESEND_TYPE))
-        & (natural(wire::be8(body, resend::FIRST_NUMBER))
-            & (natural(wire::be8(body, resend::LAST_NUMBER))
-                & status(wire::be1(body, resend::STATUS))))
+    resend_type_in_range(wire::be1(body, resend::RESEND_TYPE))
+        & (natural_in_range(wire::be8(body, resend::FIRST_NUMBER))
+            & (natural_in_range(wire::be8(body, resend::LAST_NUMBER))
+                & status_in_range(wire::be1(body, resend::STATUS))))
 }
 
 // 4 where the body lacks bytes, else 5 where a field is out of range.

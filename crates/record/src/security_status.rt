@@ -22,7 +22,7 @@ use layout::Refusal;
 use layout::Verdict;
 use layout::security_status;
 use layout::switch;
-use layout::time;
+use layout::time_in_range;
 
 #[repr(C)]
 pub struct SecurityStatus {
@@ -41,7 +41,7 @@ pub struct Switch {
 fn in_range(body: &[u8]) -> bool
     ensures { λ r. ⌜ r ≡ ranges (fields of.securityStatus) (now (body .entry)) 0 ⌝ }
 {
-    time(wire::be8(body, security_status::TIME))
+    time_in_range(wire::be8(body, security_status::TIME))
 }
 
 // 4 where the body lacks bytes, else 5 where a field is out of range.

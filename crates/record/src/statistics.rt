@@ -22,7 +22,7 @@ use layout::Refusal;
 use layout::Verdict;
 use layout::statistics;
 use layout::stream;
-use layout::time;
+use layout::time_in_range;
 use layout::width;
 
 #[repr(C)]
@@ -41,7 +41,7 @@ pub struct Stream {
 fn in_range(body: &[u8]) -> bool
     ensures { λ r. ⌜ r ≡ ranges (fields of.statistics) (now (body .entry)) 0 ⌝ }
 {
-    time(wire::be8(body, statistics::TIME))
+    time_in_range(wire::be8(body, statistics::TIME))
 }
 
 // 4 where the body lacks bytes, else 5 where a field is out of range.

@@ -7,7 +7,7 @@ ghost use Rattle.wire.specs.Bytes.{part};
 ghost use Rattle.record.specs.Asked.{filled, textRoom};
 use layout::TEXT_ROOM;
 
-// A record's texts, one behind the other in the layout's order; unused places are zero.
+// A record's texts, one behind the other in the layout's order; unused bytes are zero.
 pub struct Texts {
     pub bytes: [u8; TEXT_ROOM],
     pub length: usize,

@@ -18,12 +18,12 @@ use crate::texts::gather;
 use crate::texts::no_texts;
 use layout::Refusal;
 use layout::Verdict;
-use layout::execution;
-use layout::natural;
-use layout::number;
-use layout::price;
-use layout::quantity;
-use layout::time;
+use layout::execution_in_range;
+use layout::natural_in_range;
+use layout::number_in_range;
+use layout::price_in_range;
+use layout::quantity_in_range;
+use layout::time_in_range;
 use layout::trade;
 use layout::width;
 
@@ -46,13 +46,13 @@ const SECURITY_AND_SOURCE: usize = width::SECURITY + width::SOURCE;
 fn in_range(body: &[u8]) -> bool
     ensures { λ r. ⌜ r ≡ ranges (fields of.trade) (now (body .entry)) 0 ⌝ }
 {
-    number(wire::be8(body, trade::NUMBER))
-        & (natural(wire::be8(body, trade::BID_NUMBER))
-            & (natural(wire::be8(body, trade::OFFER_NUMBER))
-                & (price(wire::be8(body, trade::PRICE))
-                    & (quantity(wire::be8(body, trade::QUANTITY))
-                        & (execution(wire::be1(body, trade::EXECUTION))
-                            & time(wire::be8(body, trade::TIME)))))))
+    number_in_range(wire::be8(body, trade::NUMBER))
+        & (natural_in_range(wire::be8(body, trade::BID_NUMBER))
+            & (natural_in_range(wire::be8(body, trade::OFFER_NUMBER))
+                & (price_in_range(wire::be8(body, trade::PRICE))
+                    & (quantity_in_range(wire::be8(body, trade::QUANTITY))
+                        & (execution_in_range(wire::be1(body, trade::EXECUTION))
+                            & time_in_range(wire::be8(body, trade::TIME)))))))
 }
 
 // 4 where the body lacks bytes, else 5 where a field is out of range.
