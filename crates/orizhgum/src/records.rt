@@ -1,4 +1,4 @@
-// The records: each type's numbers in its struct, its texts as bytes, one behind the other in the layout's order, unused places zero. On a refusal all of them are zero.
+// The records: each type's numbers in its struct, its texts as bytes, one behind the other in the layout's order, unused bytes zero. On a refusal all of them are zero.
 ghost use mathlib.Core.Path.{_≡_};
 ghost use Rattle.layout.specs.Layout as of;
 ghost use Rattle.layout.specs.Layout.{named};

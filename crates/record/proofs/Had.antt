@@ -1,15 +1,14 @@
 -- Bytes that have the fields of a listed type: their numbers and texts stand in the part that the fields take.
 -- Assumes nothing.
-use Prim.Native.Nat.{ℕ, _+_, _-_, _<_, _≤_}
-use mathlib.Core.Path.{_≡_, refl, ap, sym, _∙_}
-use mathlib.Core.List.{List, [], _∷_, _++_}
+use Prim.Native.Nat.{ℕ, _+_, _<_, _≤_}
+use mathlib.Core.Path.{_≡_, refl}
+use mathlib.Core.List.{List, [], _∷_}
 use native.Mathlib.Omega.{arith}
 use borrow.Author.Tests.{le-leb, lt-leb}
-use lib.IntN.{ℤ}
 use lib.ListN.{length, take, drop}
 use Rattle.wire.specs.Bytes.{beAt}
 use Rattle.wire.proofs.Be.{beAt-part}
-use Rattle.layout.specs.Kind.{Kind, Form, unsigned, signed, written, form, width, bytes, characters}
+use Rattle.layout.specs.Kind.{Kind, Form, unsigned, signed, written, form, width, bytes}
 use Rattle.layout.specs.Layout.{Message, fields, size, valueAt, values}
 use Rattle.layout.specs.Group.{start}
 use Rattle.record.specs.Record.{numbersAs, had}

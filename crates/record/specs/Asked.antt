@@ -1,12 +1,12 @@
 -- Answers with the texts that go with them, and what is asked for by position.
 -- Assumes nothing.
-use Prim.Native.Nat.{ℕ, zero, suc, _-_, _<_}
+use Prim.Native.Nat.{ℕ, zero, suc, _-_}
 use mathlib.Core.Bool.{cond}
 use mathlib.Core.List.{List, [], _∷_, _++_}
 use lib.Dec.{ltb}
 use lib.ListN.{length}
 use Rattle.wire.specs.Answer.{Answer, accepted, refused}
-use Rattle.layout.specs.Layout.{Message, Listed, listed, unlisted, named}
+use Rattle.layout.specs.Layout.{Listed, listed, unlisted, named}
 use Rattle.layout.specs.Group.{judged}
 
 -- L8: the most bytes that the texts of one record take: those of a 390094, 8 and 16

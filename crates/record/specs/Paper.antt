@@ -1,6 +1,5 @@
 -- The code's answers in the specs' terms: for each case of an enum, its number and values.
 -- Assumes nothing.
-use Prim.Native.Nat.{ℕ}
 use mathlib.Core.List.{List, [], _∷_}
 use lib.IntN.{ℤ, pos}
 use Rattle.wire.specs.Answer.{Answer, accepted, refused}

@@ -1,9 +1,9 @@
 -- What a type and a body read as: records, texts and groups. The promises of this crate cite these definitions.
 -- Assumes nothing.
-use Prim.Native.Nat.{ℕ, _+_}
+use Prim.Native.Nat.{ℕ}
 use mathlib.Core.Bool.{Bool, true, false, cond}
 use mathlib.Core.List.{List, []}
-use lib.Dec.{eqb, leb}
+use lib.Dec.{leb}
 use lib.IntN.{ℤ}
 use lib.ListN.{length}
 use Rattle.wire.specs.Answer.{Answer, accepted, refused}
@@ -11,9 +11,9 @@ use Rattle.wire.specs.Bytes.{part}
 use Rattle.frame.specs.Framing.{headerWidth, bodyLimit, framing, bodyOf}
 use Rattle.frame.specs.declared.Frame.{Frame}
 use Rattle.layout.specs.Kind.{Text}
-use Rattle.layout.specs.Layout.{Message, fields, Group, Behind, nothing, groups, entries, behind, Listed, listed, unlisted, named, values, texts, textIn}
+use Rattle.layout.specs.Layout.{Message, fields, Behind, nothing, groups, entries, behind, Listed, listed, unlisted, named, values, texts, textIn}
 use Rattle.layout.specs.Group.{start, count, counted, place, group, judged}
-use Rattle.record.specs.Asked.{Told, told, onceAccepted, Asked, found, noSuchEntry, below, judging}
+use Rattle.record.specs.Asked.{Told, told, onceAccepted, Asked, found, noSuchEntry, below}
 
 -- L6, L8: a listed type with the numbers of its fixed fields, in the layout's order; or unknown, with its type
 pub data Reading : Type 0 where

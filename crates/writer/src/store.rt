@@ -8,7 +8,7 @@ ghost use Rattle.frame.specs.Framing.{headerWidth, sumWidth, bodyLimit};
 ghost use Rattle.writer.specs.Write.{frameOf};
 use frame::Frame;
 
-// The frame of a type whose fields, of size bytes, stand behind the header's place.
+// The frame of a type whose fields, of size bytes, stand behind the header's bytes.
 pub(crate) fn seal(kind: u32, size: usize, groups: &[u8], out: &mut [u8])
     requires { ⌜ (size + length (now groups) ≤ bodyLimit) × (headerWidth + sumWidth + (size + length (now groups)) ≤ length (now out)) ⌝ }
     ensures { λ _. ⌜ now (out .exit) ≡ splice (now (out .entry)) 0 (frameOf kind (part headerWidth (headerWidth + size) (now (out .entry)) ++ now (groups .entry))) ⌝ }
