@@ -45,7 +45,9 @@ use Rattle.demands.specs.Play.{recordOf}
 use Rattle.demands.proofs.Calls.{frame-read-as, read-frame-as, read-as, judge-as, group-of-as, entry-of-as, quantity-of-as, step-as, write-as, set-up-as, arrives-as, request-as}
 use Rattle.demands.specs.Rules.{_if_, Judged, success, later, OrNone, Kept}
 use Rattle.demands.specs.Conditions.{L, behindOf, fieldsEnd, groupsIn, entriesIn, shownIn, leftIn, groupCount, entryCount, shownCount, entriesLeft, EntryLacks, EntryStrays, Falls, Keeps, NotIn, Low}
-use Rattle.demands.specs.Demand1.{frameRules, bodyRules, readerRules, stepRules, writerRules, setUpRules, arrivalRules, requestRules, Demand1}
+use Rattle.demands.specs.Demand1.{frameRules, bodyRules, readerRules, stepRules, writerRules, setUpRules, arrivalRules, requestRules}
+use Rattle.demands.specs.Receiver.{Demand1}
+use Rattle.demands.proofs.Checked.{checked}
 use Rattle.demands.proofs.Rules.{above, answered, tested, Alike, both-accepted, both-refused, alike, in-turn, by-reading, by-body, by-judging}
 use Rattle.demands.proofs.Keeps.{keeps-yes, keeps-sound}
 use Rattle.demands.proofs.Out.{only-out, only-in}
@@ -475,6 +477,7 @@ every says e h = subst says (sym e) h
 pub demand1 : Demand1
 demand1 =
     record {
+      checked = checked;
       frame-read = λ s r c. rw (frame-read-as c) (by-frame s);
       read-frame = λ s r c. every (λ (a : Told record-of.Reading). Judged (readerRules s) (a .answer)) (read-frame-as c) (by-bytes s);
       read = λ type b r c. every (λ (a : Told record-of.Reading). Judged (bodyRules type b) (a .answer)) (read-as c) (by-type type b);

@@ -10,6 +10,5 @@ pub mod Demand3
 pub mod Played
 pub mod Requests
 pub mod Checked
-pub mod Known
 pub mod Receiver
 pub mod CalledFromC

@@ -8,6 +8,5 @@ pub mod Demand2
 pub mod Demand3
 pub mod Requests
 pub mod Checked
-pub mod Known
 pub mod Receiver
 pub mod CalledFromC
