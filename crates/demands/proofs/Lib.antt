@@ -5,6 +5,7 @@ pub mod Keeps
 pub mod Rules
 pub mod Demand1
 pub mod Back
+pub mod Tail
 pub mod Demand2
 pub mod Demand3
 pub mod Played
