@@ -55,7 +55,7 @@ use Rattle.demands.proofs.Played.{place-number, place-found}
 
 -- ---- the reader
 
-by-frame : (s : List ℕ) → Judged (frameRules s) (framing headerWidth bodyLimit s)
+pub by-frame : (s : List ℕ) → Judged (frameRules s) (framing headerWidth bodyLimit s)
 by-frame s = by-reading s _ (frame-laws.view headerWidth bodyLimit s)
 
 -- what follows a body that was judged
@@ -133,7 +133,7 @@ group-none (listed m) b i x e =
     rw a at (group-in (behind m) (start m) b i)
 group-none unlisted b i x e = (λ f. omega arith, λ h. cc)
 
-group-asked : (type : ℕ) (b : List ℕ) (i : ℕ) → OrNone (bodyRules type b) noSuchEntry (groupCount type b ≤ i) (groupAsked type b i .answer)
+pub group-asked : (type : ℕ) (b : List ℕ) (i : ℕ) → OrNone (bodyRules type b) noSuchEntry (groupCount type b ≤ i) (groupAsked type b i .answer)
 unfolding groupAsked
 group-asked type b i =
     record {
@@ -151,7 +151,7 @@ entry-of : (l : Listed) (b : List ℕ) (i : ℕ) → (entryOf l b i ≡ noSuchEn
 entry-of (listed m) b i = entry-in (behind m) (start m) b i
 entry-of unlisted b i = none-there i
 
-entry-asked : (type : ℕ) (b : List ℕ) (i : ℕ) → OrNone (bodyRules type b) noSuchEntry (entryCount type b ≤ i) (entryAsked type b i)
+pub entry-asked : (type : ℕ) (b : List ℕ) (i : ℕ) → OrNone (bodyRules type b) noSuchEntry (entryCount type b ≤ i) (entryAsked type b i)
 unfolding entryAsked
 entry-asked type b i =
     record {
@@ -179,7 +179,7 @@ quantity-of :
 quantity-of (listed m) b i j = quantity-in (behind m) (start m) b i j
 quantity-of unlisted b i j = quantity-in nothing 0 b i j
 
-quantity-asked :
+pub quantity-asked :
     (type : ℕ) (b : List ℕ) (i j : ℕ) →
     OrNone (bodyRules type b) noSuchEntry ((entryCount type b ≤ i) ⊎ (shownCount type b i ≤ j)) (quantityAsked type b i j)
 unfolding quantityAsked
@@ -236,7 +236,7 @@ unfolding stepOf
 step-of (listed m) b c = refl
 step-of unlisted b c = refl
 
-stepped : (type : ℕ) (b : List ℕ) (c : At) → OrNone (stepRules type b c) noSuchEntry (entriesLeft type c ≡ 0) (stepOf (named type) b c)
+pub stepped : (type : ℕ) (b : List ℕ) (c : At) → OrNone (stepRules type b c) noSuchEntry (entriesLeft type c ≡ 0) (stepOf (named type) b c)
 stepped type b c =
     record {
       judged = answered (step-of (named type) b c) (step-judged (behindOf (named type)) b c);
@@ -249,7 +249,7 @@ written-same :
     (x : record-of.Reading) (ts gs out : List ℕ) (a : Answer ℕ) (n : ℕ) (vs : List ℕ) → a ≡ refused n vs → outputOf a x ts gs out ≡ out
 written-same x ts gs out a n vs e = rw e
 
-written : (x : record-of.Reading) (ts gs out : List ℕ) → Kept (writerRules x ts gs (length out)) (answering x ts gs out) out (leaving x ts gs out)
+pub written : (x : record-of.Reading) (ts gs out : List ℕ) → Kept (writerRules x ts gs (length out)) (answering x ts gs out) out (leaving x ts gs out)
 unfolding answering leaving
 written x ts gs out =
     record {
@@ -310,7 +310,7 @@ tests-judged numbers =
     (λ f.
     tested (not (ascends 0 numbers)) (λ g. falls-by numbers (not-true _ g)) (λ g. rises-by numbers (not-false _ g)) (λ g. success)))
 
-started : (numbers : List ℕ) → Kept (setUpRules numbers) (setUp numbers .said) (blankOf []) (setUp numbers .tracker)
+pub started : (numbers : List ℕ) → Kept (setUpRules numbers) (setUp numbers .said) (blankOf []) (setUp numbers .tracker)
 unfolding setUp
 started numbers =
     record {
@@ -365,7 +365,7 @@ steps-judged t k e =
     tested (tooLow e) (low-yes e) (low-no e)
     (λ c. tested (ltb runLimit (length runs)) (ltb-true runLimit (length runs)) (λ d. above (ltb-false runLimit (length runs) d)) (λ d. success))))
 
-arrives : (t : Tracker) (k : ℕ) (e : Event) → Kept (arrivalRules t k e) (arrived t (on k e) .said) t (arrived t (on k e) .next)
+pub arrives : (t : Tracker) (k : ℕ) (e : Event) → Kept (arrivalRules t k e) (arrived t (on k e) .said) t (arrived t (on k e) .next)
 unfolding arrived
 arrives t k e =
     record {
@@ -456,7 +456,7 @@ module _ (t : Tracker) (k : ℕ) (out : List ℕ) where
   unfolding request.answering
   asked-by = alike (answer-alike (request.judging t k (length out))) (asks-judged t k (length out))
 
-  asked : Kept (requestRules t k (length out)) (request.answering t k out) out (request.leaving t k out)
+  pub asked : Kept (requestRules t k (length out)) (request.answering t k out) out (request.leaving t k out)
   unfolding request.answering request.leaving
   asked = record { judged = asked-by; same = λ n vs f. unasked k out (request.judging t k (length out)) n vs f }
 
@@ -464,7 +464,7 @@ module _ (t : Tracker) (k : ℕ) (out : List ℕ) where
   unfolding request.answering request.judging
   asked-or-none = record { judged = asked-by; none-when = λ x f. none-first x (length out) t k (firstRun t k) refl f }
 
-  nothing-written : request.answering t k out ≡ accepted request.nothing → request.leaving t k out ≡ out
+  pub nothing-written : request.answering t k out ≡ accepted request.nothing → request.leaving t k out ≡ out
   unfolding request.answering request.leaving
   nothing-written f = unwritten k out (request.judging t k (length out)) f
 

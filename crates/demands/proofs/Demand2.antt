@@ -176,7 +176,7 @@ output r ts gs out after a c =
 
 -- ---- what is written reads back
 
-back-by : (x : Reading) → Held x → (ts gs out : List ℕ) (n : ℕ) → judging x ts gs (length out) ≡ accepted n → Reads x ts gs n (leaving x ts gs out)
+pub back-by : (x : Reading) → Held x → (ts gs out : List ℕ) (n : ℕ) → judging x ts gs (length out) ≡ accepted n → Reads x ts gs n (leaving x ts gs out)
 unfolding leaving
 back-by (known m zs) h ts gs out n e = rw e (back-known m h ts gs out n e)
 back-by (unknown type) h ts gs out n e = let z : _≡_ {A = ℕ} 0 1 = cc in absurd (omega arith)
@@ -211,7 +211,7 @@ listed-reading : (s : List ℕ) (f : Frame) (m : Message) → framing headerWidt
 unfolding frameReading reading
 listed-reading s f m e c = rw (e, c)
 
-listed-groups : (t : ℕ) (m : Message) (b : List ℕ) → named t ≡ listed m → groupsPart t b ≡ groupsAs m b
+pub listed-groups : (t : ℕ) (m : Message) (b : List ℕ) → named t ≡ listed m → groupsPart t b ≡ groupsAs m b
 unfolding groupsPart
 listed-groups t m b c = rw c
 
