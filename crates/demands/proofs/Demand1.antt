@@ -41,7 +41,7 @@ use Rattle.tracker.specs.FirstRun.{Lost, lost, nothingMissing, foremost, firstR
 use Rattle.tracker.specs.Request as request
 use Rattle.tracker.specs.Request.{requestLength, fitting, answerOf}
 use Rattle.tracker.proofs.Fitting.{request-length}
-use Rattle.demands.specs.Play.{recordOf}
+use Rattle.demands.specs.Play.{channelOf}
 use Rattle.demands.proofs.Calls.{frame-read-as, read-frame-as, read-as, judge-as, group-of-as, entry-of-as, quantity-of-as, step-as, write-as, set-up-as, arrives-as, request-as}
 use Rattle.demands.specs.Rules.{_if_, Judged, success, later, OrNone, Kept}
 use Rattle.demands.specs.Conditions.{L, behindOf, fieldsEnd, groupsIn, entriesIn, shownIn, leftIn, groupCount, entryCount, shownCount, entriesLeft, EntryLacks, EntryStrays, Falls, Keeps, NotIn, Low}
@@ -352,12 +352,12 @@ settled-same t i (refused m v) n vs e = refl
 abbrev steps : Tracker → ℕ → Event → Answer channel-of.Step
 steps t k e =
     guard (not (wellFormed t)) (refused malformed [])
-    (guard (not (ltb (place-of t k) (t .count))) (refused noSuchChannel []) (channel-of.judged (recordOf t k) e))
+    (guard (not (ltb (place-of t k) (t .count))) (refused noSuchChannel []) (channel-of.judged (channelOf t k) e))
 
 steps-judged : (t : Tracker) (k : ℕ) (e : Event) → Judged (arrivalRules t k e) (steps t k e)
 unfolding channel-of.judged
 steps-judged t k e =
-    let runs = taken (recordOf t k) e .next .runs in
+    let runs = taken (channelOf t k) e .next .runs in
     tested (not (wellFormed t)) (λ a. breaks t (not-true _ a)) (λ a x. x (keeps-yes t (not-false _ a)))
     (λ a.
     tested (not (ltb (place-of t k) (t .count))) (λ b. not-in t k (not-true _ b)) (λ b. is-in t k (not-false _ b))
@@ -398,7 +398,7 @@ fitting-judged (r ∷ l) room =
 module _ (t : Tracker) (k : ℕ) where
   -- the first run of the channel, behind 10 and 7
   abbrev runs : List Run
-  runs = recordOf t k .runs
+  runs = channelOf t k .runs
 
   abbrev seated : Answer Lost
   seated = guard (not (ltb (place-of t k) (t .count))) (refused noSuchChannel []) (accepted (foremost runs))
@@ -435,10 +435,10 @@ module _ (x : request.Said) (room : ℕ) where
 
   none-first :
       (t : Tracker) (k : ℕ) (y : Answer Lost) → firstRun t k ≡ y → answerOf (andThen y (fitting room)) ≡ accepted x →
-      (x ≡ request.nothing) ↔ (recordOf t k .runs ≡ [])
+      (x ≡ request.nothing) ↔ (channelOf t k .runs ≡ [])
   unfolding andThen
   none-first t k (accepted v) f e =
-      none-by (recordOf t k .runs) (ltb room requestLength) refl (rw (← first-value t k v f) at e)
+      none-by (channelOf t k .runs) (ltb room requestLength) refl (rw (← first-value t k v f) at e)
   none-first t k (refused n vs) f e = let z : _≡_ {A = ℕ} 0 1 = cc in absurd (omega arith)
 
 module _ (k : ℕ) (out : List ℕ) where
@@ -460,7 +460,7 @@ module _ (t : Tracker) (k : ℕ) (out : List ℕ) where
   unfolding request.answering request.leaving
   asked = record { judged = asked-by; same = λ n vs f. unasked k out (request.judging t k (length out)) n vs f }
 
-  asked-or-none : OrNone (requestRules t k (length out)) request.nothing (recordOf t k .runs ≡ []) (request.answering t k out)
+  asked-or-none : OrNone (requestRules t k (length out)) request.nothing (channelOf t k .runs ≡ []) (request.answering t k out)
   unfolding request.answering request.judging
   asked-or-none = record { judged = asked-by; none-when = λ x f. none-first x (length out) t k (firstRun t k) refl f }
 

@@ -30,7 +30,7 @@ use Rattle.writer.specs.Write.{header, withSum, frameOf, judgedAs, judging, out
 use Rattle.bodies.proofs.Bodies.{exactly}
 use Rattle.writer.proofs.Judging.{known-of}
 use Rattle.bodies.proofs.Round.{length-encode}
-use Rattle.demands.specs.Demand2.{Reader, Accepted, Unlisted, shownSum, bytesOf, Column, Tail, Holds, frame-first, as-it-stood, Writer, Output, Held, Reads, ReadsBack, SameBytes}
+use Rattle.demands.specs.Demand2.{Reader, Accepted, Unlisted, shownSum, bytesOf, Column, Tail, Leaves, frame-first, as-it-stood, Writer, Output, Held, Reads, ReadsBack, SameBytes}
 use Rattle.demands.specs.Rules.{_if_, Judged, success, here, later}
 use Rattle.demands.proofs.Calls.{frame-body-as, read-frame-as, read-as, group-of-as, entry-of-as, quantity-of-as, write-as}
 use Rattle.demands.proofs.Tail.{judged-tail, read-tail, group-as-tail, entry-in-tail, quantity-in-tail}
@@ -157,7 +157,7 @@ unfolding body
 length-body m zs ts gs e =
     length-append (encode (fields m) zs ts) gs ∙ rw (length-encode (fields m) zs ts (exactly m zs ts gs e .texts))
 
-holds-by : (x : Reading) (ts gs out : List ℕ) (a : Answer ℕ) → judging x ts gs (length out) ≡ a → Holds out a x ts gs (outputOf a x ts gs out)
+holds-by : (x : Reading) (ts gs out : List ℕ) (a : Answer ℕ) → judging x ts gs (length out) ≡ a → Leaves out a x ts gs (outputOf a x ts gs out)
 unfolding splice
 holds-by (known m zs) ts gs out (accepted n) e =
     let k = known-of m zs ts gs (length out) n e in

@@ -381,7 +381,7 @@ played {t} {u} (c.step {v = v} a n k h p) =
     let x = played p in
     let y = replied t v a n (arrives-from h) in
     record {
-      steps = play.told a (saidOf (y .reply .verdict)) ∷ x .steps;
+      steps = play.turn a (saidOf (y .reply .verdict)) ∷ x .steps;
       plays = play.step a (y .reply) k (y .given) (subst (λ (w : Tracker). Play w (x .steps) u) (y .next) (x .plays));
       says = c.one refl (y .number) (x .says);
     }

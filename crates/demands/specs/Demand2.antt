@@ -94,7 +94,7 @@ pub record Tail (b t : List ℕ) : Type 0 where
   pub entry-of : (type i : ℕ) → Unmoved paperAskedEntry (λ a. a) (EntryOf type b i) (EntryOf type (b ++ t) i)
   pub quantity-of : (type i j : ℕ) → Unmoved paperQuantity (λ a. a) (QuantityOf type b i j) (QuantityOf type (b ++ t) i j)
 
--- ---- the writer answers "written" exactly where none of 5, 4, 5, 2, 6 holds
+-- ---- the writer, likewise
 
 abbrev pub Writer : Type 0
 Writer =
@@ -102,15 +102,15 @@ Writer =
     Accepted (paper a) ↔ NoneOf (writerRules (paperRecord r) ts gs (length out))
 
 -- written: header, body by layout, checksum, and the old bytes behind them; refused: every byte as it stood
-pub data Holds (out : List ℕ) : Answer ℕ → Reading → List ℕ → List ℕ → List ℕ → Type 0 where
+pub data Leaves (out : List ℕ) : Answer ℕ → Reading → List ℕ → List ℕ → List ℕ → Type 0 where
   frame-first :
       {m : Message} {zs : List ℤ} {ts gs : List ℕ} {n : ℕ} → n ≡ 12 + bodyLength m gs →
-      Holds out (accepted n) (known m zs) ts gs (frameOf (typeNumber m) (body m zs ts gs) ++ drop n out)
-  as-it-stood : {n : ℕ} {vs : List ℕ} {x : Reading} {ts gs : List ℕ} → Holds out (refused n vs) x ts gs out
+      Leaves out (accepted n) (known m zs) ts gs (frameOf (typeNumber m) (body m zs ts gs) ++ drop n out)
+  as-it-stood : {n : ℕ} {vs : List ℕ} {x : Reading} {ts gs : List ℕ} → Leaves out (refused n vs) x ts gs out
 
 abbrev pub Output : Type 0
 Output =
-    (r : Record) (ts gs out after : List ℕ) (a : Written) → Write r ts gs out a after → Holds out (paper a) (paperRecord r) ts gs after
+    (r : Record) (ts gs out after : List ℕ) (a : Written) → Write r ts gs out a after → Leaves out (paper a) (paperRecord r) ts gs after
 
 -- ---- what is written reads back
 

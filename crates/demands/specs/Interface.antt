@@ -55,7 +55,7 @@ use Rattle.demands.specs.CalledFromC.{FrameFromC, JudgeFromC, RecordFrom
 use Rattle.demands.specs.Rules.{Rule}
 use Rattle.demands.specs.Demand1.{frameRules, bodyRules, stepRules, writerRules, setUpRules, arrivalRules, requestRules}
 use Rattle.demands.specs.Demand2.{Held, NoTail}
-use Rattle.demands.specs.Play.{Callable, Told as ToldOf, Play, arrivals, Fresh}
+use Rattle.demands.specs.Play.{Callable, Turn, Play, arrivals, Fresh}
 
 -- ---- demand 1: the numbers
 
@@ -210,16 +210,16 @@ pub data PlayFromC : Tracker → List Numbered → Tracker → Type 0 where
       PlayFromC t (record { arrival = a; number = n } ∷ l) u
 
 -- the same arrivals with these numbers
-pub data Says : List ToldOf → List Numbered → Type 0 where
-  none : Says [] []
-  one : {x : ToldOf} {y : Numbered} {l : List ToldOf} {m : List Numbered} → x .arrival ≡ y .arrival → saidNumber (x .said) ≡ y .number → Says l m →
-      Says (x ∷ l) (y ∷ m)
+pub data Numbering : List Turn → List Numbered → Type 0 where
+  none : Numbering [] []
+  one : {x : Turn} {y : Numbered} {l : List Turn} {m : List Numbered} → x .arrival ≡ y .arrival → saidNumber (x .said) ≡ y .number → Numbering l m →
+      Numbering (x ∷ l) (y ∷ m)
 
 -- a playing of demand 3, and so all that demand 3 says of it
 pub record Playing (t : Tracker) (l : List Numbered) (u : Tracker) : Type 0 where
-  pub steps : List ToldOf
+  pub steps : List Turn
   pub plays : Play t steps u
-  pub says : Says steps l
+  pub says : Numbering steps l
 
 abbrev pub PlaysAsPlayed : Type 0
 PlaysAsPlayed = (t u : Tracker) (l : List Numbered) → PlayFromC t l u → Playing t l u
