@@ -1,7 +1,7 @@
 -- Demand 1: each call's answer is the refusal of the first rule whose condition holds, and leaves things as they stood.
 -- Assumes nothing.
 use Prim.Native.Nat.{ℕ, zero, suc, _+_, _≤_, _<_, zero-le}
-use mathlib.Core.Path.{_≡_, refl, ap, sym, subst, _∙_}
+use mathlib.Core.Path.{_≡_, refl, sym, subst, _∙_}
 use mathlib.Core.Bool.{Bool, true, false, true≢false, not, cond}
 use mathlib.Core.Logic.{_↔_, _⊎_, inl, inr, ⊎-elim}
 use mathlib.Core.List.{List, [], _∷_}
@@ -32,7 +32,7 @@ use Rattle.gaps.specs.Channel as channel-of
 use Rattle.gaps.specs.Channel.{Event, tick, heartbeat, taken, tooLow}
 use Rattle.tracker.specs.declared.Tracker.{Tracker}
 use Rattle.seats.specs.Places.{channelLimit}
-use Rattle.seats.specs.Rules.{sound, ascends}
+use Rattle.seats.specs.Rules.{ascends}
 use Rattle.tracker.specs.Rules.{wellFormed}
 use Rattle.tracker.specs.SetUp.{blankOf, Ready, given, setUp}
 use Rattle.tracker.specs.Arrived.{on, place as place-of, Outcome, settled, arrived}

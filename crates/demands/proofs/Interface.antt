@@ -2,7 +2,7 @@
 -- Assumes nothing.
 use Prim.Native.Nat.{ℕ, _+_, _<_, _≤_}
 use mathlib.Core.Path.{_≡_, refl, ap, sym, subst, _∙_}
-use mathlib.Core.Logic.{_⊎_, inl, inr}
+use mathlib.Core.Logic.{inl, inr}
 use mathlib.Core.List.{List, [], _∷_, _++_}
 use native.Mathlib.Omega.{arith}
 use lib.IntN.{ℤ}
@@ -20,20 +20,20 @@ use Rattle.record.specs.Paper.{paperRecord}
 use Rattle.record.specs.declared.Record.{Record}
 use Rattle.record.proofs.Choice.{named-as, reads-as}
 use Rattle.record.proofs.Unique.{one-record}
-use Rattle.entries.specs.Entry.{Entry, Stepped, entryAsked, quantityAsked, stepOf, entryFound}
+use Rattle.entries.specs.Entry.{Entry, Stepped, entryAsked, stepOf, entryFound}
 use Rattle.entries.specs.Paper.{paperCursor}
 use Rattle.entries.specs.declared.cursor.Cursor.{Cursor}
 use Rattle.bodies.specs.Body.{textSize}
 use Rattle.writer.specs.Write as writing
 use Rattle.tracker.specs.declared.Tracker.{Tracker}
 use Rattle.tracker.specs.declared.Reply.{Reply}
-use Rattle.tracker.specs.SetUp.{Ready, setUp, blankOf}
+use Rattle.tracker.specs.SetUp.{setUp}
 use Rattle.gaps.specs.Channel.{Said, new, late, duplicate, heard}
-use Rattle.tracker.specs.Arrived.{Arrival, on, Outcome, arrived, saidOf}
+use Rattle.tracker.specs.Arrived.{Arrival, Outcome, arrived, saidOf}
 use Rattle.tracker.specs.Request as asking
 use Rattle.tracker.proofs.Unique as tracker
 use Rattle.orizhgum.specs.Numbers.{plain, unknownNumber, answerNumber, frameAnswer}
-use Rattle.orizhgum.specs.Records.{judgedNumber, Shown, shownAs, recordOf, shown}
+use Rattle.orizhgum.specs.Records.{judgedNumber, Shown, shownAs, shown}
 use Rattle.orizhgum.specs.Groups.{groupTold, groupAnswer}
 use Rattle.orizhgum.specs.Entries.{Price, here, none, priceOf, priceNumber, priceLeft, pricing, pricedLeft, entryAnswer, quantityAnswer, stepAnswer}
 use Rattle.orizhgum.specs.Arrivals.{Arrived, saidNumber, startAnswer, arrivalAnswer}
@@ -51,13 +51,13 @@ use Rattle.demands.specs.Rules as rules
 use Rattle.demands.specs.Rules.{Rule, _if_, Judged, Kept}
 use Rattle.demands.specs.Conditions.{Lacks, Strays}
 use Rattle.wire.specs.Refusal.{notItsLayout, outOfRange}
-use Rattle.demands.specs.Demand1.{frameRules, writerRules}
-use Rattle.demands.specs.Demand2.{Held, Reads, NoTail}
+use Rattle.demands.specs.Demand1.{writerRules}
+use Rattle.demands.specs.Demand2.{Reads, NoTail}
 use Rattle.demands.specs.CalledFromC.{RecordFromC, WriteFromC}
 use Rattle.demands.specs.Play as play
 use Rattle.demands.specs.Play.{Play, Fresh}
 use Rattle.demands.specs.Interface as c
-use Rattle.demands.specs.Interface.{NoRefusal, NumberBy, KeptBy, PlainBy, Refusals, judgedBy, shownOf, SameAnswers, GivesBack, StructsReadBack, StructsSameBytes, Numbered, PlayFromC, Playing, PlaysAsPlayed, StartsFresh}
+use Rattle.demands.specs.Interface.{NoRefusal, NumberBy, Refusals, judgedBy, shownOf, SameAnswers, GivesBack, StructsReadBack, StructsSameBytes, Numbered, PlayFromC, Playing, PlaysAsPlayed, StartsFresh}
 use Rattle.demands.proofs.Calls.{frame-read-as, judge-as, read-as, group-of-as, entry-of-as, quantity-of-as, start-as, step-as, write-as, set-up-as, arrives-as, request-as}
 use Rattle.demands.proofs.Calls as calls
 use Rattle.demands.proofs.CalledFromC.{frame-from, judge-from, record-from, group-from, entry-from, entry-price-from, quantity-from, cursor-from, step-from, step-price-from, set-up-from, answered, arrives-from, request-from, write-from}

@@ -6,11 +6,11 @@ use mathlib.Core.Logic.{_⊎_, inl, inr}
 use mathlib.Core.Bool.{Bool, true, false}
 use mathlib.Core.List.{List, [], _∷_, _++_}
 use native.Mathlib.Omega.{arith}
-use lib.Dec.{ltb, lit<, lit≤}
-use lib.IntN.{ℤ, pos}
+use lib.Dec.{ltb, lit<}
+use lib.IntN.{pos}
 use lib.ListN.{length, drop}
 use mir.Syntax.{w64}
-use mir.Val.{SFits, toZ}
+use mir.Val.{SFits}
 use mir.Facts.{toZ-pos, sfits-toZ}
 use Rattle.wire.specs.Answer.{Answer, accepted, refused, guard, andThen}
 use Rattle.wire.specs.Bytes.{splice}
@@ -18,7 +18,6 @@ use Rattle.wire.specs.Refusal.{outputShort}
 use Rattle.frame.specs.Framing.{headerWidth, bodyLimit, framing}
 use Rattle.layout.specs.Layout.{resend, fields, typeNumber, size}
 use Rattle.bodies.specs.Body.{Numbers, none, number, words, plain, sign, body, textSize}
-use Rattle.writer.specs.Write.{frameOf, judgedAs}
 use Rattle.bodies.proofs.Bodies.{same}
 use Rattle.writer.proofs.Frames.{framed}
 use Rattle.gaps.specs.declared.Run.{Run}
@@ -29,11 +28,10 @@ use Rattle.gaps.proofs.Exact.{Exact}
 use Rattle.tracker.specs.declared.Tracker.{Tracker}
 use Rattle.tracker.specs.FirstRun.{Lost, lost, nothingMissing, foremost, firstRun}
 use Rattle.tracker.proofs.FirstRun.{first-of, first-lies}
-use Rattle.tracker.specs.Request.{batch, asked, spaces, numbersFor, requestFrame, requestLength, fitting, judging, Said, written, nothing, answerOf, outputOf, answering, leaving, paper}
-use Rattle.tracker.specs.declared.Requested.{Requested}
+use Rattle.tracker.specs.Request.{batch, asked, spaces, numbersFor, requestFrame, requestLength, fitting, written, nothing, answerOf, outputOf}
 use Rattle.tracker.proofs.Batch.{asked-all, asked-batch, asked-within}
 use Rattle.tracker.proofs.Fitting.{request-length, judged-request, answers-by, leaves-by}
-use Rattle.demands.specs.Play.{Fresh, Turn, Play, historyOf, Has, channelOf}
+use Rattle.demands.specs.Play.{Turn, historyOf, channelOf}
 use Rattle.demands.proofs.Calls.{request-as}
 use Rattle.demands.specs.Requests.{Asks, Requests, RequestReads, Misses, AsksForMissing, RequestAsksForMissing, NothingIsMissing}
 use Rattle.demands.proofs.Back.{back-known}

@@ -1,21 +1,20 @@
 -- Bytes behind those that a definition reads: it gives what it gives without them.
 -- Assumes nothing.
 use Prim.Native.Nat.{ℕ, zero, suc, _+_, _-_, _*_, _<_, _≤_}
-use mathlib.Core.Path.{_≡_, refl, ap, sym, _∙_}
-use mathlib.Core.Bool.{Bool, true, false, cond, _&&_}
+use mathlib.Core.Path.{_≡_, refl, ap}
+use mathlib.Core.Bool.{Bool, true, false, cond}
 use mathlib.Core.List.{List, [], _∷_, _++_}
 use native.Mathlib.Omega.{arith}
-use lib.Dec.{ltb, leb}
+use lib.Dec.{ltb}
 use lib.IntN.{ℤ}
-use lib.ListN.{length, take, drop, length-append, length-drop}
+use lib.ListN.{length, drop, length-append, length-drop}
 use lib.Seq.{take-append-le, drop-append-le}
 use borrow.Author.Tests.{le-leb, ltb-true}
-use Rattle.wire.specs.Answer.{Answer, accepted, refused, guard}
-use Rattle.wire.specs.Bytes.{beAt}
+use Rattle.wire.specs.Answer.{accepted, guard}
 use Rattle.wire.proofs.Be.{beAt-behind}
-use Rattle.layout.specs.Kind.{Kind, Form, unsigned, signed, written, form, bytes, width, quantity, valueIn, characters}
+use Rattle.layout.specs.Kind.{Kind, Form, unsigned, signed, written, form, bytes, width, characters}
 use Rattle.layout.specs.Layout.{Message, heartbeat, channelHeartbeat, resend, statistics, securityStatus, snapshot, index, volumeIndex, order, trade, fields, Group, Behind, nothing, groups, entries, behind, Entries, ofSnapshot, ofIndex, entryGroup, size, ranges, valueAt, values, textAt, texts}
-use Rattle.layout.specs.Group.{shown, shownPlace, next, place, fit, quantities, groupRanges, groupOf, counted, group, start, count, whole, inRange, verdict, judged}
+use Rattle.layout.specs.Group.{shown, shownPlace, next, place, fit, quantities, groupRanges, groupOf, counted, group, start, count, whole, inRange, judged}
 use Rattle.layout.proofs.Walk.{and-both, ahead, fit-fewer, fields-there, fit-there, good, has-all}
 use Rattle.record.specs.Asked.{Asked, found, noSuchEntry, below}
 use Rattle.record.specs.Record.{readAs, groupIn, groupTexts, groupAs}

@@ -1,6 +1,6 @@
 -- The C interface's statements, of every answer that the contracts of its calls allow (specs/CalledFromC).
 -- Assumes nothing.
-use Prim.Native.Nat.{ℕ, _+_, _≤_, _<_}
+use Prim.Native.Nat.{ℕ, _+_, _≤_}
 use mathlib.Core.Path.{_≡_}
 use mathlib.Core.Logic.{_⊎_}
 use mathlib.Core.List.{List, [], _∷_, _++_}
@@ -55,7 +55,7 @@ use Rattle.demands.specs.CalledFromC.{FrameFromC, JudgeFromC, RecordFrom
 use Rattle.demands.specs.Rules.{Rule}
 use Rattle.demands.specs.Demand1.{frameRules, bodyRules, stepRules, writerRules, setUpRules, arrivalRules, requestRules}
 use Rattle.demands.specs.Demand2.{Held, NoTail}
-use Rattle.demands.specs.Play.{Callable, Turn, Play, arrivals, Fresh}
+use Rattle.demands.specs.Play.{Callable, Turn, Play, Fresh}
 
 -- ---- demand 1: the numbers
 
