@@ -16,16 +16,24 @@ use Rattle.frame.specs.declared.Frame.{Frame}
 use Rattle.frame.proofs.Framing as frame-laws
 use Rattle.layout.specs.Layout.{Message, heartbeat, channelHeartbeat, resend, statistics, securityStatus, snapshot, index, volumeIndex, order, trade, fields, typeNumber, listed, named, values, texts}
 use Rattle.layout.specs.Group.{place, group, start, count, judged}
-use Rattle.record.specs.Record.{known, readAs, reading, frameReading, groupsAs, groupsPart}
+use Rattle.record.specs.Asked.{told}
+use Rattle.record.specs.Record.{Reading, known, readAs, reading, frameReading, groupsAs, groupsPart}
 use Rattle.record.proofs.Choice.{named-as, named-back}
 use Rattle.bodies.specs.Body.{Numbers, body, bodyLength, textSize}
 use Rattle.writer.specs.Write.{frameOf, frameLength, judgedAs}
 use Rattle.bodies.proofs.Bodies.{same, exactly, reads, again-from}
 use Rattle.writer.proofs.Frames.{said, framed, framed-again}
 use Rattle.writer.proofs.Judging.{known-of, fit-whole}
-use Rattle.demands.specs.Demand2.{Reads}
 
 -- ---- what is written reads back
+
+-- by the definitions, bytes begin with a frame of n bytes and read as a record with its texts and groups
+pub record ReadsAs (x : Reading) (ts gs : List ℕ) (n : ℕ) (s : List ℕ) : Type 0 where
+  pub frame : Frame
+  pub framed : framing headerWidth bodyLimit s ≡ accepted frame
+  pub total : frame .total ≡ n
+  pub fields : frameReading s ≡ told (accepted x) ts
+  pub groups : groupsPart (frame .kind) (bodyOf headerWidth (accepted frame) s) ≡ gs
 
 type-fits : (m : Message) → typeNumber m < 256 ^ 4
 type-fits heartbeat = lit< tt
@@ -41,7 +49,7 @@ type-fits trade = lit< tt
 
 pub back-known :
     (m : Message) {zs : List ℤ} → Numbers (fields m) zs → (ts gs out : List ℕ) (n : ℕ) → judgedAs m zs ts gs (length out) ≡ accepted n →
-    Reads (known m zs) ts gs n (splice out 0 (frameOf (typeNumber m) (body m zs ts gs)))
+    ReadsAs (known m zs) ts gs n (splice out 0 (frameOf (typeNumber m) (body m zs ts gs)))
 unfolding splice frameReading reading readAs groupsPart
 back-known m {zs} g ts gs out n e =
     let b : List ℕ = body m zs ts gs in

@@ -30,13 +30,13 @@ use Rattle.writer.specs.Write.{header, withSum, frameOf, judgedAs, judging, out
 use Rattle.bodies.proofs.Bodies.{exactly}
 use Rattle.writer.proofs.Judging.{known-of}
 use Rattle.bodies.proofs.Round.{length-encode}
-use Rattle.demands.specs.Demand2.{Reader, Accepted, Unlisted, shownSum, bytesOf, Column, Tail, Leaves, frame-first, as-it-stood, Writer, Output, Held, Reads, ReadsBack, SameBytes}
+use Rattle.demands.specs.Demand2.{Reader, Accepted, Unlisted, shownSum, bytesOf, Column, Tail, Leaves, frame-first, as-it-stood, Writer, Output, Held, Reads, ReadsBack, NoTail, SameBytes}
 use Rattle.demands.specs.Rules.{_if_, Judged, success, here, later}
-use Rattle.demands.proofs.Calls.{frame-body-as, read-frame-as, read-as, group-of-as, entry-of-as, quantity-of-as, write-as}
+use Rattle.demands.proofs.Calls.{frame-read-as, frame-body-as, groups-of-as, read-frame-as, read-as, group-of-as, entry-of-as, quantity-of-as, write-as}
 use Rattle.demands.proofs.Tail.{judged-tail, read-tail, group-as-tail, entry-in-tail, quantity-in-tail}
 use Rattle.demands.proofs.Rules.{not-both, accepted-where}
 use Rattle.demands.proofs.Demand1.{demand1}
-use Rattle.demands.proofs.Back.{back-known, judged-again, bytes-again}
+use Rattle.demands.proofs.Back.{ReadsAs, back-known, judged-again, bytes-again}
 
 -- ---- acceptance
 
@@ -50,7 +50,8 @@ writer r ts gs out after a c = accepted-where (demand1 .write r ts gs out after 
 
 pub unlisted : Unlisted
 unfolding frameReading reading
-unlisted s b f x e c p q =
+unlisted s b f x h c p q =
+    let e = sym (frame-read-as h) in
     record { type = ap (λ (t : Told Reading). t .answer) (read-frame-as p) ∙ rw (e, c); body = frame-body-as q ∙ rw e }
 
 -- ---- the bytes that each type's body takes
@@ -176,15 +177,26 @@ output r ts gs out after a c =
 
 -- ---- what is written reads back
 
-pub back-by : (x : Reading) → Held x → (ts gs out : List ℕ) (n : ℕ) → judging x ts gs (length out) ≡ accepted n → Reads x ts gs n (leaving x ts gs out)
+pub back-by : (x : Reading) → Held x → (ts gs out : List ℕ) (n : ℕ) → judging x ts gs (length out) ≡ accepted n → ReadsAs x ts gs n (leaving x ts gs out)
 unfolding leaving
 back-by (known m zs) h ts gs out n e = rw e (back-known m h ts gs out n e)
 back-by (unknown type) h ts gs out n e = let z : _≡_ {A = ℕ} 0 1 = cc in absurd (omega arith)
 
+-- what the definitions say, every answer of the reader says
+reads-by : {x : Reading} {ts gs : List ℕ} {n : ℕ} {s : List ℕ} → ReadsAs x ts gs n s → Reads x ts gs n s
+reads-by {s = s} r =
+    record {
+      frame = r .frame;
+      framed = λ a p. frame-read-as p ∙ r .framed;
+      total = r .total;
+      fields = λ y p. read-frame-as p ∙ r .fields;
+      groups = λ b g p q. groups-of-as q ∙ ap (groupsPart (r .frame .kind)) (frame-body-as p ∙ ap (λ (a : Answer Frame). bodyOf headerWidth a s) (r .framed)) ∙ r .groups;
+    }
+
 pub reads-back : ReadsBack
 unfolding answering
 reads-back r ts gs out after a n h c e =
-    rw (write-as c .leaves) (back-by (paperRecord r) h ts gs out n (sym (write-as c .answers) ∙ e))
+    rw (write-as c .leaves) (reads-by (back-by (paperRecord r) h ts gs out n (sym (write-as c .answers) ∙ e)))
 
 -- ---- what is read and written again
 
@@ -217,14 +229,17 @@ listed-groups t m b c = rw c
 
 pub same-bytes : SameBytes
 unfolding answering leaving
-same-bytes s out after f m x r a bytes e c t p q room w =
-    let b : List ℕ = bodyOf headerWidth (accepted f) s in
-    let l = listened m b (paperFrame x) (paperRecord r) (judged m b) refl (read-frame-as p ∙ listed-reading s f m e c) q in
-    let zs : List ℤ = values (fields m) b 0 in
-    let ts : List ℕ = texts (fields m) b 0 in
-    let gs : List ℕ = groupsAs m b in
-    let g : groupsPart (f .kind) b ≡ gs = listed-groups (f .kind) m b c in
+same-bytes s b g out after f m x r a bytes h d c n p q v room w =
+    let e = sym (frame-read-as h) in
+    let o : List ℕ = bodyOf headerWidth (accepted f) s in
+    let is : b ≡ o = frame-body-as d ∙ ap (λ (y : Answer Frame). bodyOf headerWidth y s) e in
+    let t : NoTail m o = rw is at n in
+    let l = listened m o (paperFrame x) (paperRecord r) (judged m o) refl (read-frame-as p ∙ listed-reading s f m e c) q in
+    let zs : List ℤ = values (fields m) o 0 in
+    let ts : List ℕ = texts (fields m) o 0 in
+    let gs : List ℕ = groupsAs m o in
+    let k : g ≡ gs = groups-of-as v ∙ ap (groupsPart (f .kind)) is ∙ listed-groups (f .kind) m o c in
     let j : judgedAs m zs ts gs (length out) ≡ accepted (f .total) = judged-again s f m bytes e c (l .good) t out room in (
-      write-as w .answers ∙ rw (l .is, l .words, g) j,
-      write-as w .leaves ∙ rw (l .is, l .words, g, j) (bytes-again s f m bytes e c (l .good) t out room),
+      write-as w .answers ∙ rw (l .is, l .words, k, j),
+      write-as w .leaves ∙ rw (l .is, l .words, k, j) (bytes-again s f m bytes e c (l .good) t out room),
     )

@@ -52,7 +52,7 @@ use Rattle.demands.specs.Rules.{Rule, _if_, Judged, Kept}
 use Rattle.demands.specs.Conditions.{Lacks, Strays}
 use Rattle.wire.specs.Refusal.{notItsLayout, outOfRange}
 use Rattle.demands.specs.Demand1.{writerRules}
-use Rattle.demands.specs.Demand2.{Reads, NoTail}
+use Rattle.demands.specs.Demand2.{NoTail}
 use Rattle.demands.specs.CalledFromC.{RecordFromC, WriteFromC}
 use Rattle.demands.specs.Play as play
 use Rattle.demands.specs.Play.{Play, Fresh}
@@ -64,7 +64,7 @@ use Rattle.demands.proofs.CalledFromC.{frame-from, judge-from, record-f
 use Rattle.demands.proofs.Rules.{by-body}
 use Rattle.demands.proofs.Demand1 as judging
 use Rattle.demands.proofs.Demand1.{by-frame, by-type, group-asked, entry-asked, quantity-asked, stepped, written, started, asked, nothing-written}
-use Rattle.demands.proofs.Back.{length-texts, judged-again, bytes-again}
+use Rattle.demands.proofs.Back.{ReadsAs, length-texts, judged-again, bytes-again}
 use Rattle.demands.proofs.Demand2.{back-by, listed-groups}
 use Rattle.demands.proofs.Demand3.{every-set-up-gives, answer-named, outcome}
 
@@ -283,7 +283,7 @@ unfolding frameReading
 reads-here s f e = rw e
 
 gives-back :
-    (x : Record) (ts gs : List ℕ) (n : ℕ) (s : List ℕ) (b : Reads (paperRecord x) ts gs n s) → GivesBack x ts n s (frameAnswer (accepted (b .frame)))
+    (x : Record) (ts gs : List ℕ) (n : ℕ) (s : List ℕ) (b : ReadsAs (paperRecord x) ts gs n s) → GivesBack x ts n s (frameAnswer (accepted (b .frame)))
 unfolding shown
 gives-back x ts gs n s b =
     record {
@@ -301,7 +301,7 @@ structs-read-back x ts gs out r after f held h e g =
     let w = write-from h in
     let a = write-plain (writing.answering (paperRecord x) ts gs out) (writer-positive (paperRecord x) ts gs (length out)) (written (paperRecord x) ts gs out .judged) (sym (ap (λ (y : WriteAnswer). y .answer) (w .0)) ∙ e) in
     let n = a ∙ ap (λ (y : WriteAnswer). accepted (y .written)) (sym (w .0)) in
-    let b = subst (Reads (paperRecord x) ts gs (r .written)) (sym (w .1)) (back-by (paperRecord x) held ts gs out (r .written) n) in
+    let b = subst (ReadsAs (paperRecord x) ts gs (r .written)) (sym (w .1)) (back-by (paperRecord x) held ts gs out (r .written) n) in
     subst (GivesBack x ts (r .written) after) (sym (frame-from g ∙ ap frameAnswer (b .framed))) (gives-back x ts gs (r .written) after b)
 
 -- what a body that shows plainly reads as

@@ -32,7 +32,7 @@ use Rattle.tracker.specs.Request.{batch, asked, spaces, numbersFor, requestFram
 use Rattle.tracker.proofs.Batch.{asked-all, asked-batch, asked-within}
 use Rattle.tracker.proofs.Fitting.{request-length, judged-request, answers-by, leaves-by}
 use Rattle.demands.specs.Play.{Turn, historyOf, channelOf}
-use Rattle.demands.proofs.Calls.{request-as}
+use Rattle.demands.proofs.Calls.{frame-read-as, read-frame-as, request-as}
 use Rattle.demands.specs.Requests.{Asks, Requests, RequestReads, Misses, AsksForMissing, RequestAsksForMissing, NothingIsMissing}
 use Rattle.demands.proofs.Back.{back-known}
 use Rattle.demands.proofs.Demand3.{view}
@@ -58,8 +58,8 @@ module _ (k : ℕ) (r : Run) (c : k < 256 ^ 2) (low : r .first ≤ mostNumber) (
   unfolding splice guard
   asks out h =
       record {
-        frame = frame-of (drop (0 + length (requestFrame k r)) out);
-        fields = back-known resend held spaces [] out requestLength (judged-request k r low high (length out) ∙ rw h) .fields;
+        frame = λ a p. frame-read-as p ∙ frame-of (drop (0 + length (requestFrame k r)) out);
+        fields = λ y p. read-frame-as p ∙ back-known resend held spaces [] out requestLength (judged-request k r low high (length out) ∙ rw h) .fields;
       }
 
 module _ (t : Tracker) (k : ℕ) (c : k < 256 ^ 2) (out after : List ℕ) (n : ℕ) where

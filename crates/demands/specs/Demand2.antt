@@ -10,12 +10,14 @@ use lib.ListN.{length, take, drop}
 use Rattle.wire.specs.Answer.{Answer, accepted, refused, RefusedBy}
 use Rattle.wire.specs.Bytes.{Bytes, part}
 use Rattle.wire.specs.Refusal.{notItsLayout}
-use Rattle.frame.specs.Framing.{framing, bodyOf, headerWidth, bodyLimit}
+use Rattle.frame.specs.Framing as framed-as
+use Rattle.frame.specs.declared.Framed.{Framed}
+use Rattle.frame.specs.declared.Framed.the-variants.{Whole}
 use Rattle.frame.specs.declared.Frame.{Frame}
 use Rattle.layout.specs.Layout.{Message, heartbeat, channelHeartbeat, resend, statistics, securityStatus, snapshot, index, volumeIndex, order, trade, fields, typeNumber, snapshotEntries, listed, unlisted, named}
 use Rattle.layout.specs.Group.{shown, place, count, needs}
 use Rattle.record.specs.Asked.{told}
-use Rattle.record.specs.Record.{Reading, known, unknown, frameReading, groupsPart}
+use Rattle.record.specs.Record.{Reading, known, unknown}
 use Rattle.record.specs.Paper as record-paper
 use Rattle.record.specs.Paper.{paperRecord, paperFrame}
 use Rattle.record.specs.declared.Reading as code-reading
@@ -26,7 +28,7 @@ use Rattle.bodies.specs.Body.{Numbers, body, bodyLength}
 use Rattle.writer.specs.Write.{frameOf}
 use Rattle.writer.specs.Paper.{paper}
 use Rattle.writer.specs.declared.Written.{Written}
-use Rattle.demands.specs.Calls.{ReadFrame, FrameBody, Read, GroupOf, EntryOf, QuantityOf, Write}
+use Rattle.demands.specs.Calls.{FrameRead, ReadFrame, FrameBody, Read, GroupOf, GroupsOf, EntryOf, QuantityOf, Write}
 use Rattle.demands.specs.Rules.{Rule}
 use Rattle.demands.specs.Demand1.{readerRules, writerRules}
 
@@ -53,8 +55,8 @@ pub record AsUnknown (s : List ℕ) (f : Frame) (x : FrameReading) (b : List ℕ
 
 abbrev pub Unlisted : Type 0
 Unlisted =
-    (s b : List ℕ) (f : Frame) (x : FrameReading) → framing headerWidth bodyLimit s ≡ accepted f → named (f .kind) ≡ unlisted →
-    ReadFrame s x → FrameBody s b → AsUnknown s f x b
+    (s b : List ℕ) (f : Frame) (x : FrameReading) → FrameRead s (Whole f) → named (f .kind) ≡ unlisted → ReadFrame s x →
+    FrameBody s b → AsUnknown s f x b
 
 -- ---- the bytes that each type's body takes
 
@@ -119,13 +121,13 @@ abbrev pub Held : Reading → Type 0
 Held (known m zs) = Numbers (fields m) zs
 Held (unknown type) = Unit
 
--- bytes read as a record with its texts; they begin with a frame of n bytes, and the groups of its body are those
+-- by every answer of the reader, bytes begin with a frame of n bytes and read as a record with its texts and groups
 pub record Reads (x : Reading) (ts gs : List ℕ) (n : ℕ) (s : List ℕ) : Type 0 where
   pub frame : Frame
-  pub framed : framing headerWidth bodyLimit s ≡ accepted frame
+  pub framed : (a : Framed) → FrameRead s a → framed-as.paper a ≡ accepted frame
   pub total : frame .total ≡ n
-  pub fields : frameReading s ≡ told (accepted x) ts
-  pub groups : groupsPart (frame .kind) (bodyOf headerWidth (accepted frame) s) ≡ gs
+  pub fields : (y : FrameReading) → ReadFrame s y → paperFrame y ≡ told (accepted x) ts
+  pub groups : (b g : List ℕ) → FrameBody s b → GroupsOf (frame .kind) b g → g ≡ gs
 
 -- whatever stood in the output before, and so behind the frame
 abbrev pub ReadsBack : Type 0
@@ -140,8 +142,7 @@ NoTail m b = needs m b ≡ length b
 
 abbrev pub SameBytes : Type 0
 SameBytes =
-    (s out after : List ℕ) (f : Frame) (m : Message) (x : FrameReading) (r : Record) (a : Written) → Bytes s →
-    framing headerWidth bodyLimit s ≡ accepted f → named (f .kind) ≡ listed m → NoTail m (bodyOf headerWidth (accepted f) s) →
-    ReadFrame s x → paperFrame x .answer ≡ accepted (paperRecord r) → f .total ≤ length out →
-    Write r (take (paperFrame x .used) (paperFrame x .texts)) (groupsPart (f .kind) (bodyOf headerWidth (accepted f) s)) out a after →
+    (s b g out after : List ℕ) (f : Frame) (m : Message) (x : FrameReading) (r : Record) (a : Written) → Bytes s → FrameRead s (Whole f) →
+    FrameBody s b → named (f .kind) ≡ listed m → NoTail m b → ReadFrame s x → paperFrame x .answer ≡ accepted (paperRecord r) →
+    GroupsOf (f .kind) b g → f .total ≤ length out → Write r (take (paperFrame x .used) (paperFrame x .texts)) g out a after →
     (paper a ≡ accepted (f .total)) × (after ≡ take (f .total) s ++ drop (f .total) out)

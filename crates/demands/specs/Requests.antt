@@ -7,10 +7,13 @@ use mathlib.Core.List.{List, [], _∷_}
 use lib.IntN.{pos}
 use lib.ListN.{replicate}
 use Rattle.wire.specs.Answer.{accepted}
-use Rattle.frame.specs.Framing.{framing, headerWidth, bodyLimit}
+use Rattle.frame.specs.Framing as framed-as
+use Rattle.frame.specs.declared.Framed.{Framed}
 use Rattle.layout.specs.Layout.{resend}
 use Rattle.record.specs.Asked.{told}
-use Rattle.record.specs.Record.{known, frameReading}
+use Rattle.record.specs.Record.{known}
+use Rattle.record.specs.Paper.{paperFrame}
+use Rattle.record.specs.declared.framed.FrameReading.{FrameReading}
 use Rattle.gaps.specs.declared.Run.{Run}
 use Rattle.gaps.specs.History.{Missing}
 use Rattle.tracker.specs.declared.Tracker.{Tracker}
@@ -18,14 +21,14 @@ use Rattle.tracker.specs.FirstRun.{lost, firstRun}
 use Rattle.seats.specs.Places.{firstNumber}
 use Rattle.tracker.specs.Request.{batch, asked, space, written, nothing, paper}
 use Rattle.tracker.specs.declared.Requested.{Requested}
-use Rattle.demands.specs.Calls.{Request}
+use Rattle.demands.specs.Calls.{FrameRead, ReadFrame, Request}
 use Rattle.demands.specs.Play.{Fresh, Turn, Play, historyOf, Has}
 
--- bytes that begin with a frame of 390094, L 44, 56 bytes, which reads as resend type 1, channel k, the numbers of r, status 0 and spaces
+-- bytes that, by every answer of the reader, begin with a frame of 390094, L 44, 56 bytes, and read as resend type 1, channel k, the numbers of r, status 0 and spaces
 pub record Asks (k : ℕ) (r : Run) (s : List ℕ) : Type 0 where
-  pub frame : framing headerWidth bodyLimit s ≡ accepted (record { kind = 390094; len = 44; total = 56 })
+  pub frame : (a : Framed) → FrameRead s a → framed-as.paper a ≡ accepted (record { kind = 390094; len = 44; total = 56 })
   pub fields :
-      frameReading s ≡
+      (y : FrameReading) → ReadFrame s y → paperFrame y ≡
       told (accepted (known resend (pos 1 ∷ pos k ∷ pos (r .first) ∷ pos (r .last) ∷ pos 0 ∷ []))) (replicate 24 space)
 
 -- the channel has a first run, n bytes are written, and they ask for that run, or its first 200 numbers
