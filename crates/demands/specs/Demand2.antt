@@ -38,21 +38,23 @@ use Rattle.demands.specs.Demand1.{readerRules, writerRules}
 pub data Accepted {A : Type 0} : Answer A → Type 0 where
   with-value : (x : A) → Accepted (accepted x)
 
+-- no condition of some rules holds
 abbrev pub NoneOf : List Rule → Type 0
 NoneOf [] = Unit
 NoneOf (r ∷ rs) = (r .when → ⊥) × NoneOf rs
 
--- the reader accepts exactly the frames that none of 1 to 5 describes
+-- D21: the reader accepts exactly the frames that none of 1 to 5 describes
 abbrev pub Reader : Type 0
 Reader = (s : List ℕ) (x : FrameReading) → ReadFrame s x → Accepted (paperFrame x .answer) ↔ NoneOf (readerRules s)
 
 -- ---- a type that is not listed
 
--- is answered as unknown, with its number; and its body is lent as that of any other frame
+-- L6, F6: it is answered as unknown, with its number, and its body is lent as that of any other frame
 pub record AsUnknown (s : List ℕ) (f : Frame) (x : FrameReading) (b : List ℕ) : Type 0 where
   pub type : paperFrame x .answer ≡ accepted (unknown (f .kind))
   pub body : b ≡ part 8 (8 + f .len) s
 
+-- L6: so by the reader, and by the call for the body
 abbrev pub Unlisted : Type 0
 Unlisted =
     (s b : List ℕ) (f : Frame) (x : FrameReading) → FrameRead s (Whole f) → named (f .kind) ≡ unlisted → ReadFrame s x →
@@ -60,11 +62,12 @@ Unlisted =
 
 -- ---- the bytes that each type's body takes
 
--- the shown counts of the first k entries of a snapshot, added up
+-- L5: the shown counts of the first k entries of a snapshot, added up
 abbrev pub shownSum : List ℕ → ℕ → ℕ
 shownSum b zero = 0
 shownSum b (suc k) = shownSum b k + shown snapshotEntries b (place snapshotEntries b 69 k)
 
+-- L3: the column of bytes
 abbrev pub bytesOf : Message → List ℕ → ℕ
 bytesOf heartbeat b = 0
 bytesOf channelHeartbeat b = 12
@@ -77,7 +80,7 @@ bytesOf volumeIndex b = 69
 bytesOf order b = 51
 bytesOf trade b = 66
 
--- a body is refused by 4 exactly where it has fewer
+-- R4, L3: a body is refused by 4 exactly where it has fewer
 abbrev pub Column : Type 0
 Column =
     (m : Message) (b : List ℕ) (r : code-reading.Reading) → Read (typeNumber m) b r →
@@ -85,10 +88,11 @@ Column =
 
 -- ---- the tail: bytes behind a frame, and behind an accepted body, change nothing that is read
 
--- what a call can answer of the longer bytes is what it answered where it accepted
+-- L7: what a call can answer of longer bytes is what it answered where it accepted
 abbrev pub Unmoved : {R A B : Type 0} → (R → A) → (A → Answer B) → (R → Type 0) → (R → Type 0) → Type 0
 Unmoved {R} paper answer Can Longer = (r u : R) → Can r → Longer u → Accepted (answer (paper r)) → paper u ≡ paper r
 
+-- F5, L7: bytes t behind
 pub record Tail (b t : List ℕ) : Type 0 where
   pub read-frame : Unmoved paperFrame (λ a. a .answer) (ReadFrame b) (ReadFrame (b ++ t))
   pub read : (type : ℕ) → Unmoved record-paper.paper (λ a. a .answer) (Read type b) (Read type (b ++ t))
@@ -98,18 +102,20 @@ pub record Tail (b t : List ℕ) : Type 0 where
 
 -- ---- the writer, likewise
 
+-- D21: the writer writes exactly where none of 5, 4, 5, 2, 6 holds
 abbrev pub Writer : Type 0
 Writer =
     (r : Record) (ts gs out after : List ℕ) (a : Written) → Write r ts gs out a after →
     Accepted (paper a) ↔ NoneOf (writerRules (paperRecord r) ts gs (length out))
 
--- written: header, body by layout, checksum, and the old bytes behind them; refused: every byte as it stood
+-- W2, D21: written: header, body by layout, checksum, and the old bytes behind them; refused: every byte as it stood
 pub data Leaves (out : List ℕ) : Answer ℕ → Reading → List ℕ → List ℕ → List ℕ → Type 0 where
   frame-first :
       {m : Message} {zs : List ℤ} {ts gs : List ℕ} {n : ℕ} → n ≡ 12 + bodyLength m gs →
       Leaves out (accepted n) (known m zs) ts gs (frameOf (typeNumber m) (body m zs ts gs) ++ drop n out)
   as-it-stood : {n : ℕ} {vs : List ℕ} {x : Reading} {ts gs : List ℕ} → Leaves out (refused n vs) x ts gs out
 
+-- D21: so after every write
 abbrev pub Output : Type 0
 Output =
     (r : Record) (ts gs out after : List ℕ) (a : Written) → Write r ts gs out a after → Leaves out (paper a) (paperRecord r) ts gs after
@@ -121,7 +127,7 @@ abbrev pub Held : Reading → Type 0
 Held (known m zs) = Numbers (fields m) zs
 Held (unknown type) = Unit
 
--- by every answer of the reader, bytes begin with a frame of n bytes and read as a record with its texts and groups
+-- D22: by every answer of the reader, bytes begin with a frame of n bytes and read as a record with its texts and groups
 pub record Reads (x : Reading) (ts gs : List ℕ) (n : ℕ) (s : List ℕ) : Type 0 where
   pub frame : Frame
   pub framed : (a : Framed) → FrameRead s a → framed-as.paper a ≡ accepted frame
@@ -129,7 +135,7 @@ pub record Reads (x : Reading) (ts gs : List ℕ) (n : ℕ) (s : List ℕ) : Typ
   pub fields : (y : FrameReading) → ReadFrame s y → paperFrame y ≡ told (accepted x) ts
   pub groups : (b g : List ℕ) → FrameBody s b → GroupsOf (frame .kind) b g → g ≡ gs
 
--- whatever stood in the output before, and so behind the frame
+-- D22: whatever stood in the output before, and so behind the frame
 abbrev pub ReadsBack : Type 0
 ReadsBack =
     (r : Record) (ts gs out after : List ℕ) (a : Written) (n : ℕ) → Held (paperRecord r) → Write r ts gs out a after →
@@ -137,9 +143,11 @@ ReadsBack =
 
 -- ---- what is read is written again with the same bytes
 
+-- L7: a body that ends with its layout
 abbrev pub NoTail : Message → List ℕ → Type 0
 NoTail m b = needs m b ≡ length b
 
+-- D23: a frame of a listed type without a tail, read and written again, is the same bytes
 abbrev pub SameBytes : Type 0
 SameBytes =
     (s b g out after : List ℕ) (f : Frame) (m : Message) (x : FrameReading) (r : Record) (a : Written) → Bytes s → FrameRead s (Whole f) →
