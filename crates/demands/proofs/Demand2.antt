@@ -1,15 +1,16 @@
 -- Demand 2: acceptance, what is written reads back, what is read and written again is the same bytes.
 -- Assumes nothing.
-use Prim.Native.Nat.{ℕ, zero, suc, _+_, _*_}
+use Prim.Native.Nat.{ℕ, zero, suc, _+_, _-_, _*_}
 use mathlib.Core.Path.{_≡_, refl, ap, sym, subst, _∙_}
 use mathlib.Core.Logic.{_↔_}
-use mathlib.Core.Bool.{true}
+use mathlib.Core.Bool.{Bool, true, false}
+use lib.Dec.{eqb}
 use mathlib.Core.List.{List, [], _∷_, _++_}
 use native.Mathlib.Omega.{arith}
 use lib.IntN.{ℤ}
 use lib.ListN.{length, take, length-append}
 use lib.Seq.{take-append-seam}
-use Rattle.wire.specs.Answer.{Answer, accepted, refused, RefusedBy, with-values, andThen}
+use Rattle.wire.specs.Answer.{Answer, accepted, refused, RefusedBy, with-values, guard, andThen}
 use Rattle.wire.specs.Refusal.{notItsLayout, outOfRange}
 use Rattle.wire.proofs.Be.{part-behind}
 use Rattle.wire.specs.Bytes.{splice}
@@ -17,13 +18,14 @@ use Rattle.wire.proofs.Digits.{length-digits}
 use Rattle.frame.specs.Framing.{framing, bodyOf, headerWidth, bodyLimit}
 use Rattle.frame.specs.declared.Frame.{Frame}
 use Rattle.frame.proofs.Framing as frame-laws
-use Rattle.layout.specs.Layout.{Message, heartbeat, channelHeartbeat, resend, statistics, securityStatus, snapshot, index, volumeIndex, order, trade, streams, switches, indexEntries, snapshotEntries, fields, typeNumber, Listed, listed, unlisted as no-type, named, size, values, texts}
-use Rattle.layout.specs.Group.{place, count, needs, judged}
+use Rattle.layout.specs.Layout.{Message, heartbeat, channelHeartbeat, resend, statistics, securityStatus, snapshot, index, volumeIndex, order, trade, streams, switches, indexEntries, snapshotEntries, Behind, nothing, groups, entries, behind, Entries, entryGroup, fields, typeNumber, Listed, listed, unlisted as no-type, named, size, values, texts}
+use Rattle.layout.specs.Group.{next, place, count, needs, judged, judgedFrom}
 use Rattle.layout.proofs.Walk.{place-next, place-flat}
-use Rattle.record.specs.Asked.{Told, told, onceAccepted, Asked, judgedAs as judgedBody}
+use Rattle.record.specs.Asked.{Told, told, onceAccepted, Asked, found, noSuchEntry, judgedAs as judgedBody}
 use Rattle.record.specs.Record.{Reading, known, unknown, readAs, readListed, reading, frameRead, frameReading, groupAs, groupListed, groupAsked, groupsAs, groupsPart}
 use Rattle.record.proofs.Choice.{named-as}
-use Rattle.entries.specs.Entry.{Entry, entryOf, entryAsked, quantityOf, quantityAsked}
+use Rattle.entries.specs.Paper.{paperCursor}
+use Rattle.entries.specs.Entry.{Entry, At, Stepped, entryAt, stepIn, stepOf, entryOf, entryAsked, quantityOf, quantityAsked}
 use Rattle.record.specs.Paper.{paperRecord, paperFrame}
 use Rattle.bodies.specs.Body.{encode, body, bodyLength, exact}
 use Rattle.writer.specs.Write.{header, withSum, frameOf, judgedAs, judging, outputOf, answering, leaving}
@@ -32,8 +34,8 @@ use Rattle.writer.proofs.Judging.{known-of}
 use Rattle.bodies.proofs.Round.{length-encode}
 use Rattle.demands.specs.Demand2.{Reader, Accepted, Unlisted, shownSum, bytesOf, Column, Tail, Leaves, frame-first, as-it-stood, Writer, Output, Held, Reads, ReadsBack, NoTail, SameBytes}
 use Rattle.demands.specs.Rules.{_if_, Judged, success, here, later}
-use Rattle.demands.proofs.Calls.{frame-read-as, frame-body-as, groups-of-as, read-frame-as, read-as, group-of-as, entry-of-as, quantity-of-as, write-as}
-use Rattle.demands.proofs.Tail.{judged-tail, read-tail, group-as-tail, entry-in-tail, quantity-in-tail}
+use Rattle.demands.proofs.Calls.{frame-read-as, frame-body-as, groups-of-as, read-frame-as, read-as, judge-as, group-of-as, entry-of-as, quantity-of-as, step-as, write-as}
+use Rattle.demands.proofs.Tail.{judged-tail, same-entry, read-tail, group-as-tail, entry-in-tail, quantity-in-tail}
 use Rattle.demands.proofs.Rules.{not-both, accepted-where}
 use Rattle.demands.proofs.Demand1.{demand1}
 use Rattle.demands.proofs.Back.{ReadsAs, back-known, judged-again, bytes-again}
@@ -100,6 +102,10 @@ unfolding andThen
 then-judged (accepted u) a k = refl
 then-judged (refused n vs) a k = not-both k
 
+unit-judged : (v : Answer Unit) → Accepted v → v ≡ accepted tt
+unit-judged (accepted u) k = refl
+unit-judged (refused n vs) k = not-both k
+
 read-longer : (l : Listed) (type : ℕ) (b t : List ℕ) → Accepted (readListed l type b .answer) → readListed l type (b ++ t) ≡ readListed l type b
 unfolding readAs
 read-longer (listed m) type b t k = read-tail m b t (once-judged (judged m b) _ _ k)
@@ -124,6 +130,38 @@ unfolding andThen
 quantity-longer (listed m) b t i j k = let a = then-judged (judged m b) _ k in rw (judged-tail m b t a, a, quantity-in-tail m b t a i j)
 quantity-longer no-type b t i j k = refl
 
+judge-longer : (l : Listed) (b t : List ℕ) → Accepted (judgedBody l b) → judgedBody l (b ++ t) ≡ judgedBody l b
+judge-longer (listed m) b t k = let a = unit-judged (judged m b) k in judged-tail m b t a ∙ sym a
+judge-longer no-type b t k = refl
+
+-- a step where an entry is left
+abbrev stepAt : Entries → List ℕ → At → Answer (Asked Stepped)
+stepAt e s c =
+    andThen (judgedFrom (entryGroup e) s (c .place) 1)
+    (λ (u : Unit). accepted (found (record { entry = entryAt e s (c .place); onward = record { place = next (entryGroup e) s (c .place); left = c .left - 1 } })))
+
+entry-step : (e : Entries) (b t : List ℕ) (c : At) → Accepted (stepAt e b c) → stepAt e (b ++ t) c ≡ stepAt e b c
+unfolding andThen
+entry-step e b t c k =
+    let a = then-judged (judgedFrom (entryGroup e) b (c .place) 1) _ k in
+    let n = same-entry e b t (c .place) a in
+    rw (n .judged, a, n .entry, n .behind)
+
+step-behind : (h : Behind) (b t : List ℕ) (c : At) → Accepted (stepIn h b c) → stepIn h (b ++ t) c ≡ stepIn h b c
+unfolding guard
+step-behind nothing b t c k = refl
+step-behind (groups g) b t c k = refl
+step-behind (entries e) b t c k = by (eqb (c .left) 0) k
+  where
+    by : (x : Bool) → Accepted (guard x (accepted noSuchEntry) (stepAt e b c)) → guard x (accepted noSuchEntry) (stepAt e (b ++ t) c) ≡ guard x (accepted noSuchEntry) (stepAt e b c)
+    by true j = refl
+    by false j = entry-step e b t c j
+
+step-longer : (l : Listed) (b t : List ℕ) (c : At) → Accepted (stepOf l b c) → stepOf l (b ++ t) c ≡ stepOf l b c
+unfolding stepOf
+step-longer (listed m) b t c k = step-behind (behind m) b t c k
+step-longer no-type b t c k = refl
+
 frame-longer : (s t : List ℕ) (a : Answer Frame) → framing headerWidth bodyLimit s ≡ a → Accepted (frameRead a s .answer) → frameReading (s ++ t) ≡ frameReading s
 unfolding frameReading
 frame-longer s t (accepted f) e k =
@@ -143,9 +181,11 @@ tail b t =
     record {
       read-frame = λ r u p q k. longer (λ (x : Told Reading). x .answer) (read-frame-as p) (read-frame-as q) (λ j. frame-longer b t (framing headerWidth bodyLimit b) refl j) k;
       read = λ type r u p q k. longer (λ (x : Told Reading). x .answer) (read-as p) (read-as q) (read-longer (named type) type b t) k;
+      judge = λ type r u p q k. longer (λ (x : Answer Unit). x) (judge-as p) (judge-as q) (judge-longer (named type) b t) k;
       group-of = λ type i r u p q k. longer (λ (x : Told (Asked (List ℤ))). x .answer) (group-of-as p) (group-of-as q) (group-longer (named type) b t i) k;
       entry-of = λ type i r u p q k. longer (λ (x : Answer (Asked Entry)). x) (entry-of-as p) (entry-of-as q) (entry-longer (named type) b t i) k;
       quantity-of = λ type i j r u p q k. longer (λ (x : Answer (Asked ℤ)). x) (quantity-of-as p) (quantity-of-as q) (quantity-longer (named type) b t i j) k;
+      step = λ c type r u p q k. longer (λ (x : Answer (Asked Stepped)). x) (step-as p) (step-as q) (step-longer (named type) b t (paperCursor c)) k;
     }
 
 -- ---- the output

@@ -14,7 +14,7 @@ use Rattle.wire.specs.Answer.{accepted, guard}
 use Rattle.wire.proofs.Be.{beAt-behind}
 use Rattle.layout.specs.Kind.{Kind, Form, unsigned, signed, written, form, bytes, width, characters}
 use Rattle.layout.specs.Layout.{Message, heartbeat, channelHeartbeat, resend, statistics, securityStatus, snapshot, index, volumeIndex, order, trade, fields, Group, Behind, nothing, groups, entries, behind, Entries, ofSnapshot, ofIndex, entryGroup, size, ranges, valueAt, values, textAt, texts}
-use Rattle.layout.specs.Group.{shown, shownPlace, next, place, fit, quantities, groupRanges, groupOf, counted, group, start, count, whole, inRange, judged}
+use Rattle.layout.specs.Group.{shown, shownPlace, next, place, fit, quantities, groupRanges, groupOf, counted, group, start, count, whole, inRange, judged, judgedFrom}
 use Rattle.layout.proofs.Walk.{and-both, ahead, fit-fewer, fields-there, fit-there, good, has-all}
 use Rattle.record.specs.Asked.{Asked, found, noSuchEntry, below}
 use Rattle.record.specs.Record.{readAs, groupIn, groupTexts, groupAs}
@@ -254,3 +254,27 @@ module _ (m : Message) (s t : List ℕ) (a : judged m s ≡ accepted tt) (i : �
 
   pub quantity-in-tail : (j : ℕ) → quantityIn (behind m) (start m) (s ++ t) i j ≡ quantityIn (behind m) (start m) s i j
   quantity-in-tail j = let w = has-all m s a in quantities-in s t (start m) i (behind m) (counts m) (count-tail m s t (w .long)) (w .groups) j
+
+-- ---- the entry at a cursor
+
+entry-counts : (e : Entries) → entryGroup e .shows ≡ true → 4 ≤ size (entryGroup e .fields)
+unfolding size
+entry-counts ofSnapshot h = omega arith
+entry-counts ofIndex h = omega arith
+
+pub record SameEntry (e : Entries) (s t : List ℕ) (at : ℕ) : Type 0 where
+  pub judged : judgedFrom (entryGroup e) (s ++ t) at 1 ≡ accepted tt
+  pub entry : entryAt e (s ++ t) at ≡ entryAt e s at
+  pub behind : next (entryGroup e) (s ++ t) at ≡ next (entryGroup e) s at
+
+pub same-entry : (e : Entries) (s t : List ℕ) (at : ℕ) → judgedFrom (entryGroup e) s at 1 ≡ accepted tt → SameEntry e s t at
+unfolding judgedFrom guard
+same-entry e s t at j =
+    let g = entryGroup e in
+    let w = good (fit g s at 1) (groupRanges g s at 1) j in
+    let n = ahead g s at 1 (omega arith) (w .all) in
+    record {
+      judged = rw (fit-tail s t g (entry-counts e) at 1 (w .all), groupRanges-tail s t g (entry-counts e) at 1 (w .all), w .each);
+      entry = entry-tail s t 0 e at (n .fixed);
+      behind = next-tail s t g (entry-counts e) at (n .fixed);
+    }

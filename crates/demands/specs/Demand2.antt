@@ -15,6 +15,7 @@ use Rattle.frame.specs.declared.Framed.{Framed}
 use Rattle.frame.specs.declared.Framed.the-variants.{Whole}
 use Rattle.frame.specs.declared.Frame.{Frame}
 use Rattle.layout.specs.Layout.{Message, heartbeat, channelHeartbeat, resend, statistics, securityStatus, snapshot, index, volumeIndex, order, trade, fields, typeNumber, snapshotEntries, listed, unlisted, named}
+use Rattle.layout.specs.Paper as layout-paper
 use Rattle.layout.specs.Group.{shown, place, count, needs}
 use Rattle.record.specs.Asked.{told}
 use Rattle.record.specs.Record.{Reading, known, unknown}
@@ -23,12 +24,13 @@ use Rattle.record.specs.Paper.{paperRecord, paperFrame}
 use Rattle.record.specs.declared.Reading as code-reading
 use Rattle.record.specs.declared.Record.{Record}
 use Rattle.record.specs.declared.framed.FrameReading.{FrameReading}
-use Rattle.entries.specs.Paper.{paperAskedEntry, paperQuantity}
+use Rattle.entries.specs.Paper.{paperAskedEntry, paperQuantity, paperStep}
+use Rattle.entries.specs.declared.cursor.Cursor.{Cursor}
 use Rattle.bodies.specs.Body.{Numbers, body, bodyLength}
 use Rattle.writer.specs.Write.{frameOf}
 use Rattle.writer.specs.Paper.{paper}
 use Rattle.writer.specs.declared.Written.{Written}
-use Rattle.demands.specs.Calls.{FrameRead, ReadFrame, FrameBody, Read, GroupOf, GroupsOf, EntryOf, QuantityOf, Write}
+use Rattle.demands.specs.Calls.{FrameRead, ReadFrame, FrameBody, Read, Judge, GroupOf, GroupsOf, EntryOf, QuantityOf, CursorStep, Write}
 use Rattle.demands.specs.Rules.{Rule}
 use Rattle.demands.specs.Demand1.{readerRules, writerRules}
 
@@ -96,9 +98,11 @@ Unmoved {R} paper answer Can Longer = (r u : R) → Can r → Longer u → Accep
 pub record Tail (b t : List ℕ) : Type 0 where
   pub read-frame : Unmoved paperFrame (λ a. a .answer) (ReadFrame b) (ReadFrame (b ++ t))
   pub read : (type : ℕ) → Unmoved record-paper.paper (λ a. a .answer) (Read type b) (Read type (b ++ t))
+  pub judge : (type : ℕ) → Unmoved layout-paper.paper (λ a. a) (Judge type b) (Judge type (b ++ t))
   pub group-of : (type i : ℕ) → Unmoved record-paper.paperGroup (λ a. a .answer) (GroupOf type b i) (GroupOf type (b ++ t) i)
   pub entry-of : (type i : ℕ) → Unmoved paperAskedEntry (λ a. a) (EntryOf type b i) (EntryOf type (b ++ t) i)
   pub quantity-of : (type i j : ℕ) → Unmoved paperQuantity (λ a. a) (QuantityOf type b i j) (QuantityOf type (b ++ t) i j)
+  pub step : (c : Cursor) (type : ℕ) → Unmoved paperStep (λ a. a) (CursorStep c type b) (CursorStep c type (b ++ t))
 
 -- ---- the writer, likewise
 
