@@ -1,39 +1,69 @@
 //! Ticks on a tracker of eight channels: in order, late at a run's end, and gaps opened and closed.
-use crate::board;
-use crate::race;
-use crate::tracker::Tracker;
+use crate::calls;
+use crate::race::{Bench, Row};
+use crate::tracker;
 use std::hint::black_box;
 
 /// The eight channels.
 pub const CHANNELS: [u16; 8] = [2011, 2012, 2013, 2014, 2015, 2016, 2017, 2018];
 
-/// The sum of the answers.
-fn receiver(channels: &[u16], numbers: &[i64]) -> u32 {
-    let mut t = board::set_up(&CHANNELS).tracker;
-    channels.iter().zip(numbers).map(|(&c, &n)| board::tick(&mut t, c, n)).sum()
+/// What takes ticks.
+trait Tracks: Copy {
+    fn tick(&mut self, channel: u16, number: i64) -> u32;
 }
 
-fn rust(channels: &[u16], numbers: &[i64]) -> u32 {
-    let mut t = Tracker::set_up();
-    channels.iter().zip(numbers).map(|(&c, &n)| t.tick(c, n)).sum()
+impl Tracks for calls::Tracker {
+    fn tick(&mut self, channel: u16, number: i64) -> u32 {
+        calls::tick(self, channel, number)
+    }
 }
 
-fn play(what: &str, numbers: Vec<i64>) {
-    let channels: Vec<u16> = numbers.iter().map(|_| 2013).collect();
-    assert_eq!(receiver(&channels, &numbers), rust(&channels, &numbers));
-    let what = format!("{} ticks, {what}", numbers.len());
-    race(
-        &what,
-        20,
-        || receiver(black_box(&channels), black_box(&numbers)),
-        || rust(black_box(&channels), black_box(&numbers)),
+impl Tracks for tracker::Tracker {
+    fn tick(&mut self, channel: u16, number: i64) -> u32 {
+        self.tick(channel, number)
+    }
+}
+
+/// The sum of the answers to all ticks, from a state on.
+fn play(mut t: impl Tracks, ticks: &[i64]) -> u32 {
+    ticks.iter().map(|&each| t.tick(2013, each)).sum()
+}
+
+/// Both sides' answers, the same, with the same state behind each.
+fn answers(start: &calls::Tracker, ticks: &[i64]) -> Vec<u32> {
+    let (mut ours, mut rust) = (*start, tracker::Tracker::from(start));
+    let both = |&each| {
+        let answer = ours.tick(2013, each);
+        assert_eq!(answer, rust.tick(2013, each));
+        assert_eq!(tracker::Tracker::from(&ours), rust);
+        answer
+    };
+    ticks.iter().map(both).collect()
+}
+
+/// Runs both sides on the same ticks; the figures are for one.
+fn race_ticks(bench: &Bench, what: &str, numbers: impl Iterator<Item = i64>) {
+    let ticks: Vec<i64> = numbers.collect();
+    let start = calls::set_up(&CHANNELS);
+    let rust = tracker::Tracker::from(&start);
+    answers(&start, &ticks);
+    let (turns, parts) = (20, ticks.len());
+    bench.race(
+        Row { what, turns, parts },
+        || play(*black_box(&start), black_box(&ticks)),
+        || play(*black_box(&rust), black_box(&ticks)),
     );
 }
 
-pub fn run() {
-    play("in order", (1..=1_000).collect());
+pub fn run(bench: &Bench) {
+    race_ticks(bench, "tick in order", 1..=1_000);
     // A far number, then the missing ones from the first on.
-    play("late at a run's end", std::iter::once(1_000).chain(1..1_000).collect());
+    race_ticks(
+        bench,
+        "tick late at a run's end",
+        std::iter::once(1_000).chain(1..1_000),
+    );
     // 3, 1, 2, 6, 4, 5: each third number opens a run, which the next two close.
-    play("gaps opened and closed", (0..333).flat_map(|i| [3 * i + 3, 3 * i + 1, 3 * i + 2]).collect());
+    let gaps = (0..333).flat_map(|i| [3 * i + 3, 3 * i + 1, 3 * i + 2]);
+    race_ticks(bench, "tick, gaps opened and closed", gaps);
 }
