@@ -67,6 +67,10 @@ pub fn tick(t: &mut Tracker, channel: u16, number: i64) -> u32 {
     lend!(orizhgum_tick_in, t, as_mut_ptr, channel, number)
 }
 
+pub fn heartbeat(t: &mut Tracker, channel: u16, last: i64, end: u8) -> u32 {
+    lend!(orizhgum_heartbeat_in, t, as_mut_ptr, channel, last, end)
+}
+
 pub fn request(t: &Tracker, channel: u16, out: &mut [u8]) -> WriteAnswer {
     let (to, room) = (out.as_mut_ptr(), out.len());
     lend!(orizhgum_request_in, t, as_ptr, channel, to, room)

@@ -8,6 +8,7 @@ mod race;
 mod ranges;
 mod records;
 mod requests;
+mod tables;
 mod ticks;
 mod tracker;
 mod writing;
@@ -21,5 +22,6 @@ fn main() {
     entries::run(&bench);
     writing::run(&bench);
     ticks::run(&bench);
+    tables::run(&bench);
     requests::run(&bench);
 }

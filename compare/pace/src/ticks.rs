@@ -1,4 +1,4 @@
-//! Ticks on a tracker of eight channels: in order, late at a run's end, and gaps opened and closed.
+//! Arrivals on a tracker of eight channels: in order, late at a run's end, and gaps opened and closed.
 use crate::calls;
 use crate::race::{Bench, Row};
 use crate::tracker;
@@ -7,14 +7,33 @@ use std::hint::black_box;
 /// The eight channels.
 pub const CHANNELS: [u16; 8] = [2011, 2012, 2013, 2014, 2015, 2016, 2017, 2018];
 
-/// What takes ticks.
-trait Tracks: Copy {
+/// A channel's tick, or its heartbeat.
+#[derive(Clone, Copy)]
+pub enum Arrival {
+    Tick(u16, i64),
+    Heartbeat(u16, i64),
+}
+
+/// What takes arrivals.
+pub trait Tracks: Copy {
     fn tick(&mut self, channel: u16, number: i64) -> u32;
+    fn heartbeat(&mut self, channel: u16, last: i64, end: u8) -> u32;
+
+    fn arrive(&mut self, arrival: &Arrival) -> u32 {
+        match *arrival {
+            Arrival::Tick(channel, number) => self.tick(channel, number),
+            Arrival::Heartbeat(channel, last) => self.heartbeat(channel, last, 0),
+        }
+    }
 }
 
 impl Tracks for calls::Tracker {
     fn tick(&mut self, channel: u16, number: i64) -> u32 {
         calls::tick(self, channel, number)
+    }
+
+    fn heartbeat(&mut self, channel: u16, last: i64, end: u8) -> u32 {
+        calls::heartbeat(self, channel, last, end)
     }
 }
 
@@ -22,37 +41,45 @@ impl Tracks for tracker::Tracker {
     fn tick(&mut self, channel: u16, number: i64) -> u32 {
         self.tick(channel, number)
     }
+
+    fn heartbeat(&mut self, channel: u16, last: i64, end: u8) -> u32 {
+        self.heartbeat(channel, last, end)
+    }
 }
 
-/// The sum of the answers to all ticks, from a state on.
-fn play(mut t: impl Tracks, ticks: &[i64]) -> u32 {
-    ticks.iter().map(|&each| t.tick(2013, each)).sum()
+/// The sum of the answers to all arrivals, from a state on.
+fn play(mut t: impl Tracks, arrivals: &[Arrival]) -> u32 {
+    arrivals.iter().map(|each| t.arrive(each)).sum()
 }
 
 /// Both sides' answers, the same, with the same state behind each.
-fn answers(start: &calls::Tracker, ticks: &[i64]) -> Vec<u32> {
+pub fn answers(start: &calls::Tracker, arrivals: &[Arrival]) -> Vec<u32> {
     let (mut ours, mut rust) = (*start, tracker::Tracker::from(start));
-    let both = |&each| {
-        let answer = ours.tick(2013, each);
-        assert_eq!(answer, rust.tick(2013, each));
+    let both = |each| {
+        let answer = ours.arrive(each);
+        assert_eq!(answer, rust.arrive(each));
         assert_eq!(tracker::Tracker::from(&ours), rust);
         answer
     };
-    ticks.iter().map(both).collect()
+    arrivals.iter().map(both).collect()
 }
 
-/// Runs both sides on the same ticks; the figures are for one.
-fn race_ticks(bench: &Bench, what: &str, numbers: impl Iterator<Item = i64>) {
-    let ticks: Vec<i64> = numbers.collect();
-    let start = calls::set_up(&CHANNELS);
-    let rust = tracker::Tracker::from(&start);
-    answers(&start, &ticks);
-    let (turns, parts) = (20, ticks.len());
+/// Runs both sides on the same arrivals; the figures are for one.
+pub fn race_arrivals(bench: &Bench, what: &str, start: &calls::Tracker, arrivals: &[Arrival]) {
+    let rust = tracker::Tracker::from(start);
+    let (turns, parts) = (20, arrivals.len());
     bench.race(
         Row { what, turns, parts },
-        || play(*black_box(&start), black_box(&ticks)),
-        || play(*black_box(&rust), black_box(&ticks)),
+        || play(*black_box(start), black_box(arrivals)),
+        || play(*black_box(&rust), black_box(arrivals)),
     );
+}
+
+fn race_ticks(bench: &Bench, what: &str, numbers: impl Iterator<Item = i64>) {
+    let arrivals: Vec<Arrival> = numbers.map(|n| Arrival::Tick(2013, n)).collect();
+    let start = calls::set_up(&CHANNELS);
+    answers(&start, &arrivals);
+    race_arrivals(bench, what, &start, &arrivals);
 }
 
 pub fn run(bench: &Bench) {

@@ -103,6 +103,15 @@ impl Channel {
             None => DUPLICATE,
         }
     }
+
+    fn heartbeat(&mut self, last: u64, end: bool) -> u32 {
+        if !self.miss(last) {
+            return 9;
+        }
+        self.highest = self.highest.max(last);
+        self.ended |= end;
+        0
+    }
 }
 
 impl From<&calls::Tracker> for Tracker {
@@ -157,6 +166,18 @@ impl Tracker {
             None => 7,
             Some(_) if n < 1 => 8,
             Some(c) => c.tick(n as u64),
+        }
+    }
+
+    #[inline(never)]
+    pub fn heartbeat(&mut self, channel: u16, last: i64, end: u8) -> u32 {
+        if !self.sound() {
+            return 10;
+        }
+        match self.channel(channel) {
+            None => 7,
+            Some(_) if last < 0 => 8,
+            Some(c) => c.heartbeat(last as u64, end != 0),
         }
     }
 
