@@ -1,10 +1,16 @@
 //! The product's calls that are run, with slices for pointer and length.
 pub use compare::board::header::*;
 pub use compare::receiver::{Cursor, Tracker};
-pub use compare::second::layout::{ORDER, RESEND, SNAPSHOT, TRADE};
+pub use compare::second::layout::{
+    CHANNEL_HEARTBEAT, HEARTBEAT, INDEX, ORDER, RESEND, SNAPSHOT, TRADE,
+};
 
 pub fn frame(bytes: &[u8]) -> FrameAnswer {
     unsafe { orizhgum_frame(bytes.as_ptr(), bytes.len()) }
+}
+
+pub fn judge(kind: u32, body: &[u8]) -> u32 {
+    unsafe { orizhgum_judge(kind, body.as_ptr(), body.len()) }
 }
 
 macro_rules! read {
@@ -19,6 +25,8 @@ read! {
     order = orizhgum_order -> Order;
     trade = orizhgum_trade -> Trade;
     snapshot = orizhgum_snapshot -> Snapshot;
+    index = orizhgum_index -> Index;
+    channel_heartbeat = orizhgum_channel_heartbeat -> ChannelHeartbeat;
 }
 
 pub fn cursor(kind: u32, body: &[u8]) -> Cursor {

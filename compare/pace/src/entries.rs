@@ -1,10 +1,10 @@
 //! The entries of a snapshot, one step after the other: without their prices, and with them.
-use crate::calls::{self, Cursor, Entry, StepAnswer, NO_SUCH_ENTRY, SNAPSHOT};
+use crate::calls::{self, Cursor, Entry, StepAnswer, INDEX, NO_SUCH_ENTRY, SNAPSHOT};
 use crate::calls::{SAYS_LEVEL, SAYS_LEVEL_WITHOUT_PRICE, SAYS_NO_LIMIT, SAYS_PRICE};
 use crate::calls::{SAYS_PRICE_AND_SIZE, SAYS_SIZE, SAYS_UNKNOWN};
 use crate::inputs::snapshot_body;
 use crate::race::{same, Bench, Row};
-use crate::ranges::{entry_in, half, int, word, PRICE};
+use crate::ranges::{entry_in, half, int, price, word, PRICE};
 use std::hint::black_box;
 
 /// What an entry says, with its price if it says one.
@@ -40,6 +40,20 @@ fn told(e: &[u8]) -> Told {
     }
 }
 
+/// What an entry of an index says.
+#[inline(always)]
+fn told_of_index(e: &[u8]) -> Told {
+    let says = |says| Entry {
+        says,
+        characters: half(e, 0),
+        ..Entry::default()
+    };
+    match &e[0..2] {
+        b"3 " | b"xa" | b"xb" | b"xc" | b"xd" => (says(SAYS_PRICE), Some(int(e, 2))),
+        _ => (says(SAYS_UNKNOWN), None),
+    }
+}
+
 /// The entry of a snapshot at a place, after 4 and 5, and its width.
 #[inline(always)]
 fn of_snapshot(place: usize, s: &[u8]) -> Result<(Told, usize), u32> {
@@ -57,11 +71,25 @@ fn of_snapshot(place: usize, s: &[u8]) -> Result<(Told, usize), u32> {
     Ok((told(e), 32 + 8 * shown))
 }
 
+/// The entry of an index at a place, after 4 and 5, and its width.
+#[inline(always)]
+fn of_index(place: usize, s: &[u8]) -> Result<(Told, usize), u32> {
+    if s.len() < place || s.len() - place < 10 {
+        return Err(4);
+    }
+    let e = &s[place..place + 10];
+    if !price(int(e, 2)) {
+        return Err(5);
+    }
+    Ok((told_of_index(e), 10))
+}
+
 #[inline(always)]
 fn stepped(at: Cursor, kind: u32, s: &[u8]) -> (StepAnswer, Option<i64>) {
     let found = match kind {
         _ if at.left == 0 => Err(NO_SUCH_ENTRY),
         SNAPSHOT => of_snapshot(at.place, s),
+        INDEX => of_index(at.place, s),
         _ => Err(NO_SUCH_ENTRY),
     };
     match found {
@@ -96,14 +124,14 @@ fn step(at: Cursor, kind: u32, s: &[u8]) -> StepAnswer {
 }
 
 #[inline(never)]
-fn step_with_price(at: Cursor, kind: u32, s: &[u8]) -> (StepAnswer, Option<i64>) {
+pub fn step_with_price(at: Cursor, kind: u32, s: &[u8]) -> (StepAnswer, Option<i64>) {
     stepped(at, kind, s)
 }
 
 /// The cursor before the first entry.
 #[inline(never)]
-fn cursor(kind: u32, s: &[u8]) -> Cursor {
-    let counted = kind == SNAPSHOT && s.len() >= 69;
+pub fn cursor(kind: u32, s: &[u8]) -> Cursor {
+    let counted = matches!(kind, SNAPSHOT | INDEX) && s.len() >= 69;
     Cursor {
         place: 69,
         left: if counted { word(s, 65) } else { 0 },

@@ -6,7 +6,7 @@ use crate::ranges::{checksum, word};
 use std::hint::black_box;
 
 #[inline(never)]
-fn frame(bytes: &[u8]) -> FrameAnswer {
+pub fn frame(bytes: &[u8]) -> FrameAnswer {
     let refused = |answer| FrameAnswer {
         answer,
         kind: 0,

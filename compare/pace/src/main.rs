@@ -1,7 +1,8 @@
-//! Runs the calls of include/orizhgum.h beside hand-written Rust that does the same checks, in one process;
-//! given words, only the rows that have them all.
+//! Runs the calls of include/orizhgum.h beside hand-written Rust that does the same checks, in one process:
+//! `pace CAPTURE WORDS..`; given words, only the rows that have them all.
 mod calls;
 mod entries;
+mod feed;
 mod frames;
 mod inputs;
 mod race;
@@ -14,7 +15,9 @@ mod tracker;
 mod writing;
 
 fn main() {
-    let words = std::env::args().skip(1).collect();
+    let mut words = std::env::args().skip(1);
+    let capture = std::fs::read(words.next().expect("a capture")).expect("the capture's bytes");
+    let words = words.collect();
     let bench = race::Bench { words };
     race::head();
     frames::run(&bench);
@@ -24,4 +27,5 @@ fn main() {
     ticks::run(&bench);
     tables::run(&bench);
     requests::run(&bench);
+    feed::run(&bench, &capture);
 }

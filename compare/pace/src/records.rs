@@ -1,8 +1,11 @@
-//! Orders, trades and snapshots read.
-use crate::calls::{self, Answer, Common, Order, Snapshot, Texts, Trade};
+//! Records read: orders, trades, snapshots, and what else a feed has.
+use crate::calls::{self, Answer, ChannelHeartbeat, Common, Index, Order, Snapshot, Texts, Trade};
+use crate::calls::{CHANNEL_HEARTBEAT, HEARTBEAT, INDEX, ORDER, SNAPSHOT, TRADE, UNKNOWN};
 use crate::inputs::{order_body, snapshot_body, trade_body};
 use crate::race::{same, Bench, Row};
-use crate::ranges::{common_in, entries_end, entries_in, half, int, order_in, trade_in, word};
+use crate::ranges::{
+    common_in, entries_end, entries_in, half, int, order_in, price, trade_in, word,
+};
 use std::fmt::Debug;
 use std::hint::black_box;
 
@@ -28,7 +31,7 @@ fn accepted<N>(numbers: N, one: &[u8], other: &[u8]) -> Answer<N> {
 }
 
 #[inline(never)]
-fn order(s: &[u8]) -> Answer<Order> {
+pub fn order(s: &[u8]) -> Answer<Order> {
     if s.len() < 51 {
         return refused(4);
     }
@@ -48,7 +51,7 @@ fn order(s: &[u8]) -> Answer<Order> {
 }
 
 #[inline(never)]
-fn trade(s: &[u8]) -> Answer<Trade> {
+pub fn trade(s: &[u8]) -> Answer<Trade> {
     if s.len() < 66 {
         return refused(4);
     }
@@ -68,6 +71,22 @@ fn trade(s: &[u8]) -> Answer<Trade> {
     accepted(r, &s[10..13], &s[29..41])
 }
 
+#[inline(never)]
+pub fn channel_heartbeat(s: &[u8]) -> Answer<ChannelHeartbeat> {
+    if s.len() < 12 {
+        return refused(4);
+    }
+    let r = ChannelHeartbeat {
+        channel: half(s, 0),
+        last_number: int(s, 2),
+        end: half(s, 10),
+    };
+    if r.last_number < 0 || r.end > 1 {
+        return refused(5);
+    }
+    accepted(r, &[], &[])
+}
+
 /// The common part of a body that has it.
 #[inline(always)]
 fn common(s: &[u8]) -> Common {
@@ -82,7 +101,7 @@ fn common(s: &[u8]) -> Common {
 }
 
 #[inline(never)]
-fn snapshot(s: &[u8]) -> Answer<Snapshot> {
+pub fn snapshot(s: &[u8]) -> Answer<Snapshot> {
     if s.len() < 69 {
         return refused(4);
     }
@@ -97,6 +116,36 @@ fn snapshot(s: &[u8]) -> Answer<Snapshot> {
         return refused(5);
     }
     accepted(r, &s[10..33], &[])
+}
+
+#[inline(never)]
+pub fn index(s: &[u8]) -> Answer<Index> {
+    if s.len() < 69 || (s.len() - 69) / 10 < word(s, 65) as usize {
+        return refused(4);
+    }
+    let r = Index {
+        common: common(s),
+        count: word(s, 65),
+    };
+    let points = &s[69..69 + 10 * r.count as usize];
+    if !common_in(&r.common) || !points.chunks_exact(10).all(|each| price(int(each, 2))) {
+        return refused(5);
+    }
+    accepted(r, &s[10..33], &[])
+}
+
+/// How a body of one of these types reads.
+#[inline(never)]
+pub fn judge(kind: u32, s: &[u8]) -> u32 {
+    match kind {
+        HEARTBEAT => 0,
+        CHANNEL_HEARTBEAT => channel_heartbeat(s).answer,
+        ORDER => order(s).answer,
+        TRADE => trade(s).answer,
+        SNAPSHOT => snapshot(s).answer,
+        INDEX => index(s).answer,
+        _ => UNKNOWN,
+    }
 }
 
 type Reader<N> = fn(&[u8]) -> Answer<N>;
