@@ -1,6 +1,7 @@
-//! Runs both sides of a row, timed.
+//! Runs both sides of a row: timed, or once each between marks for an emulator that counts instructions.
 use std::fmt::Debug;
 use std::hint::black_box;
+use std::os::unix::process::parent_id;
 use std::time::Instant;
 
 /// A row: its name, how many turns a timed round has, and how many parts of a turn its figures are for one of.
@@ -10,8 +11,9 @@ pub struct Row<'a> {
     pub parts: usize,
 }
 
-/// The rows that have all words.
+/// Times or counts, of the rows that have all words.
 pub struct Bench {
+    pub counts: bool,
     pub words: Vec<String>,
 }
 
@@ -21,7 +23,10 @@ impl Bench {
         if !self.words.iter().all(|word| row.what.contains(word)) {
             return;
         }
-        time(row, receiver, rust);
+        match self.counts {
+            true => count(row, receiver, rust),
+            false => time(row, receiver, rust),
+        }
     }
 }
 
@@ -47,6 +52,23 @@ fn time<T, U>(row: Row, mut receiver: impl FnMut() -> T, mut rust: impl FnMut() 
         b = b.min(round(&row, &mut rust));
     }
     println!("{:<36}{a:>10.1} ns{b:>10.1} ns{:>8.2}", row.what, a / b);
+}
+
+/// Tells the emulator to say how much has run since the last mark.
+fn mark() {
+    black_box(parent_id());
+}
+
+/// A line for the emulator to go on with: name and parts, then what ran before, nothing, the receiver, and Rust.
+fn count<T, U>(row: Row, mut receiver: impl FnMut() -> T, mut rust: impl FnMut() -> U) {
+    eprint!("{}\t{}", row.what, row.parts);
+    mark();
+    mark();
+    black_box(&receiver());
+    mark();
+    black_box(&rust());
+    mark();
+    eprintln!();
 }
 
 /// Two answers must be the same, by what they print: the header's structs have no equality.
