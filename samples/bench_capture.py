@@ -61,7 +61,8 @@ def a_snapshot(step, _):
     offered = step // 3 % 8 > 0
     entries += [entry("1", offered * (price + 100 * level), offered * 5000,
                       level, offered * 2) for level in range(1, levels + 1)]
-    entries[6]["quantities"] = tuple(range(100, 100 + 100 * (step // 11 % 12), 100))
+    shown = step // 11 % 12
+    entries[6]["quantities"] = tuple(range(100, 100 + 100 * shown, 100))
     return good("snapshot", entries, security=f"{step * 7 % 2_800 + 1:06d}",
                 time=clock(step), phase="T0", trade_count=step,
                 volume=10_000 * step, amount=price * 100 * step)
@@ -98,8 +99,11 @@ MIX = (45 * [an_order] + 40 * [a_trade] + 10 * [a_snapshot] + 2 * [an_index]
 
 
 def feed():
-    """Frames without end. Six of 211 ticks are lost; of four such losses three come 60 frames later. One tick in 97
-    comes twice."""
+    """Frames without end.
+
+    Six of 211 ticks are lost; of four such losses three come 60 frames later.
+    One tick in 97 comes twice.
+    """
     tick, late = 0, deque()
     for step in count():
         while late and late[0][0] <= step:
