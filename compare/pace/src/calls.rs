@@ -37,16 +37,14 @@ pub fn step(at: Cursor, kind: u32, body: &[u8]) -> StepAnswer {
     unsafe { orizhgum_step(at, kind, body.as_ptr(), body.len()) }
 }
 
-/// A step, and the price of its entry where that says one.
-pub fn step_with_price(at: Cursor, kind: u32, body: &[u8]) -> (StepAnswer, Option<i64>) {
+/// A step, whose lent price is written where the entry says one.
+pub fn next(at: Cursor, kind: u32, body: &[u8], price: &mut i64) -> StepAnswer {
     let told = step(at, kind, body);
-    let mut price = 0;
-    let priced =
-        matches!(
-            told.entry.says,
-            SAYS_LEVEL | SAYS_PRICE | SAYS_PRICE_AND_SIZE
-        ) && unsafe { orizhgum_step_price(at, kind, body.as_ptr(), body.len(), &mut price) } == 0;
-    (told, priced.then_some(price))
+    let says = told.entry.says;
+    if matches!(says, SAYS_LEVEL | SAYS_PRICE | SAYS_PRICE_AND_SIZE) {
+        unsafe { orizhgum_step_price(at, kind, body.as_ptr(), body.len(), price) };
+    }
+    told
 }
 
 pub fn set_up(channels: &[u16]) -> Tracker {

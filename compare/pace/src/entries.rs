@@ -7,6 +7,9 @@ use crate::race::{same, Bench, Row};
 use crate::ranges::{entry_in, half, int, price, word, PRICE};
 use std::hint::black_box;
 
+/// Stands in a lent price: an entry that says none leaves it.
+pub const NONE: i64 = i64::MIN;
+
 /// What an entry says, with its price if it says one.
 type Told = (Entry, Option<i64>);
 
@@ -92,30 +95,21 @@ fn stepped(at: Cursor, kind: u32, s: &[u8]) -> (StepAnswer, Option<i64>) {
         INDEX => of_index(at.place, s),
         _ => Err(NO_SUCH_ENTRY),
     };
-    match found {
+    let (answer, entry, price, next) = match found {
         Ok(((entry, price), width)) => {
-            let next = Cursor {
-                place: at.place + width,
-                left: at.left - 1,
-            };
-            (
-                StepAnswer {
-                    answer: 0,
-                    entry,
-                    next,
-                },
-                price,
-            )
+            let (place, left) = (at.place + width, at.left - 1);
+            (0, entry, price, Cursor { place, left })
         }
-        Err(answer) => (
-            StepAnswer {
-                answer,
-                entry: Entry::default(),
-                next: at,
-            },
-            None,
-        ),
-    }
+        Err(answer) => (answer, Entry::default(), None, at),
+    };
+    (
+        StepAnswer {
+            answer,
+            entry,
+            next,
+        },
+        price,
+    )
 }
 
 #[inline(never)]
@@ -124,8 +118,12 @@ fn step(at: Cursor, kind: u32, s: &[u8]) -> StepAnswer {
 }
 
 #[inline(never)]
-pub fn step_with_price(at: Cursor, kind: u32, s: &[u8]) -> (StepAnswer, Option<i64>) {
-    stepped(at, kind, s)
+pub fn next(at: Cursor, kind: u32, s: &[u8], price: &mut i64) -> StepAnswer {
+    let (told, own) = stepped(at, kind, s);
+    if let Some(own) = own {
+        *price = own;
+    }
+    told
 }
 
 /// The cursor before the first entry.
@@ -139,7 +137,7 @@ pub fn cursor(kind: u32, s: &[u8]) -> Cursor {
 }
 
 /// All steps from the first entry on, each answer seen.
-fn steps<T>(s: &[u8], step: impl Fn(Cursor, u32, &[u8]) -> T, next: impl Fn(&T) -> Cursor) -> u32 {
+fn steps(s: &[u8], step: impl Fn(Cursor, u32, &[u8]) -> StepAnswer) -> u32 {
     let mut at = black_box(Cursor {
         place: 69,
         left: 28,
@@ -147,26 +145,45 @@ fn steps<T>(s: &[u8], step: impl Fn(Cursor, u32, &[u8]) -> T, next: impl Fn(&T) 
     let mut taken = 0;
     while at.left > 0 {
         let told = step(at, black_box(SNAPSHOT), s);
-        at = next(black_box(&told));
+        at = black_box(&told).next;
         taken += 1;
     }
     taken
 }
 
-/// Both sides' answers at every entry, on the body and on one cut short, are the same.
+/// A step with its price, seen too.
+fn priced(
+    next: impl Fn(Cursor, u32, &[u8], &mut i64) -> StepAnswer,
+) -> impl Fn(Cursor, u32, &[u8]) -> StepAnswer {
+    move |at, kind, s| {
+        let mut price = NONE;
+        let told = next(at, kind, s, &mut price);
+        black_box(&price);
+        told
+    }
+}
+
+/// Both sides' answers, and the lent prices behind them, are the same.
+fn agree_at(at: Cursor, s: &[u8]) {
+    let (mut a, mut b) = (NONE, NONE);
+    same(
+        calls::next(at, SNAPSHOT, s, &mut a),
+        next(at, SNAPSHOT, s, &mut b),
+    );
+    assert_eq!(a, b);
+    same(calls::step(at, SNAPSHOT, s), step(at, SNAPSHOT, s));
+}
+
+/// They agree at every entry, on the body and on one cut short.
 fn agree(s: &[u8]) {
     let mut at = calls::cursor(SNAPSHOT, s);
     same(at, cursor(SNAPSHOT, s));
     while at.left > 0 {
-        let cut = &s[..at.place + 31];
-        same(
-            calls::step_with_price(at, SNAPSHOT, s),
-            step_with_price(at, SNAPSHOT, s),
-        );
-        same(calls::step(at, SNAPSHOT, cut), step(at, SNAPSHOT, cut));
+        agree_at(at, s);
+        agree_at(at, &s[..at.place + 31]);
         at = calls::step(at, SNAPSHOT, s).next;
     }
-    same(calls::step(at, SNAPSHOT, s), step(at, SNAPSHOT, s));
+    agree_at(at, s);
 }
 
 pub fn run(bench: &Bench) {
@@ -177,16 +194,14 @@ pub fn run(bench: &Bench) {
         turns: 10_000,
         parts: 1,
     };
-    let next = |told: &StepAnswer| told.next;
     bench.race(
         row("28 entries stepped through"),
-        || steps(black_box(&s), calls::step, next),
-        || steps(black_box(&s), step, next),
+        || steps(black_box(&s), calls::step),
+        || steps(black_box(&s), step),
     );
-    let next = |told: &(StepAnswer, Option<i64>)| told.0.next;
     bench.race(
         row("28 entries stepped, with prices"),
-        || steps(black_box(&s), calls::step_with_price, next),
-        || steps(black_box(&s), step_with_price, next),
+        || steps(black_box(&s), priced(calls::next)),
+        || steps(black_box(&s), priced(next)),
     );
 }

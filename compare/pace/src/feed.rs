@@ -18,7 +18,7 @@ trait Side {
     fn channel_heartbeat(body: &[u8]) -> Answer<ChannelHeartbeat>;
     fn judge(kind: u32, body: &[u8]) -> u32;
     fn cursor(kind: u32, body: &[u8]) -> Cursor;
-    fn step(at: Cursor, kind: u32, body: &[u8]) -> (StepAnswer, Option<i64>);
+    fn next(at: Cursor, kind: u32, body: &[u8], price: &mut i64) -> StepAnswer;
 }
 
 macro_rules! side {
@@ -50,8 +50,8 @@ macro_rules! side {
             fn cursor(kind: u32, body: &[u8]) -> Cursor {
                 $entries::cursor(kind, body)
             }
-            fn step(at: Cursor, kind: u32, body: &[u8]) -> (StepAnswer, Option<i64>) {
-                $entries::step_with_price(at, kind, body)
+            fn next(at: Cursor, kind: u32, body: &[u8], price: &mut i64) -> StepAnswer {
+                $entries::next(at, kind, body, price)
             }
         }
     };
@@ -113,9 +113,11 @@ impl<T: Tracks, E: Sees> Host<T, E> {
         }
         let mut at = S::cursor(kind, body);
         while at.left > 0 {
-            let told = S::step(at, kind, body);
+            let mut price = entries::NONE;
+            let told = S::next(at, kind, body, &mut price);
             self.eye.see(&told);
-            at = told.0.next;
+            self.eye.see(&price);
+            at = told.next;
         }
     }
 
