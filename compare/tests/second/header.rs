@@ -1,6 +1,6 @@
 //! The Rust declarations are the C header's.
 
-use compare::board::header::{numbers, prototypes, structs};
+use compare::product::header::{numbers, prototypes, structs};
 use compare::second::layout::{Field, LISTED};
 use std::collections::BTreeSet;
 use std::path::{Path, PathBuf};

@@ -16,7 +16,7 @@ use numbers::Numbers;
 use std::ptr;
 
 /// The product.
-pub struct Board;
+pub struct Product;
 
 /// Stands for a refusal's number where an answer has something that the
 /// header does not let it have: a number or a text beside a refusal, one that
@@ -245,7 +245,7 @@ macro_rules! lend {
     };
 }
 
-impl Receiver for Board {
+impl Receiver for Product {
     fn frame(&self, bytes: &[u8]) -> FrameAnswer {
         let told = unsafe { orizhgum_frame(lent(bytes), bytes.len()) };
         match told.answer {
