@@ -5,7 +5,6 @@ use mathlib.Core.List.{List, [], _∷_}
 use lib.IntN.{ℤ, pos}
 use Rattle.wire.specs.Answer.{Answer, accepted, refused}
 use Rattle.frame.specs.Framing as framing
-use Rattle.layout.specs.Kind.{Text, stream, security, source, phase, financialStatus, newsId, rejectText}
 use Rattle.layout.specs.Layout.{heartbeat, channelHeartbeat, resend, statistics, securityStatus, snapshot, index, volumeIndex, order, trade}
 use Rattle.layout.specs.Paper.{refusal}
 use Rattle.record.specs.Asked.{Told, Asked, found, noSuchEntry}
@@ -13,7 +12,6 @@ use Rattle.record.specs.Record as record-of
 use Rattle.record.specs.declared.Record.{Record}
 use Rattle.record.specs.declared.Record.the-variants.{Heartbeat, ChannelHeartbeat, Resend, Statistics, SecurityStatus, Snapshot, Index, VolumeIndex, Order, Trade, Unknown}
 use Rattle.record.specs.declared.common.Common.{Common}
-use Rattle.record.specs.declared.texts.Text as code-text
 use Rattle.record.specs.declared.Answer as code-answer
 use Rattle.record.specs.declared.Reading as code-reading
 use Rattle.record.specs.declared.framed.FrameAnswer as frame-answer
@@ -62,16 +60,6 @@ frameAnswer (frame-answer.the-variants.Body x) = refused (refusal x) []
 
 abbrev pub paperFrame : frame-reading.FrameReading → Told record-of.Reading
 paperFrame r = record { answer = frameAnswer (r .answer); texts = r .texts .bytes; used = r .texts .length }
-
--- the text that the code means
-abbrev pub meant : code-text.Text → Text
-meant code-text.the-variants.Stream = stream
-meant code-text.the-variants.Security = security
-meant code-text.the-variants.Source = source
-meant code-text.the-variants.Phase = phase
-meant code-text.the-variants.FinancialStatus = financialStatus
-meant code-text.the-variants.NewsId = newsId
-meant code-text.the-variants.RejectText = rejectText
 
 -- ---- groups
 

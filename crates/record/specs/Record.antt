@@ -10,8 +10,7 @@ use Rattle.wire.specs.Answer.{Answer, accepted, refused}
 use Rattle.wire.specs.Bytes.{part}
 use Rattle.frame.specs.Framing.{headerWidth, bodyLimit, framing, bodyOf}
 use Rattle.frame.specs.declared.Frame.{Frame}
-use Rattle.layout.specs.Kind.{Text}
-use Rattle.layout.specs.Layout.{Message, fields, Group, Behind, nothing, groups, entries, behind, Listed, listed, unlisted, named, values, texts, textIn}
+use Rattle.layout.specs.Layout.{Message, fields, Group, Behind, nothing, groups, entries, behind, Listed, listed, unlisted, named, values, texts}
 use Rattle.layout.specs.Group.{start, count, counted, place, group, judged}
 use Rattle.record.specs.Asked.{Told, told, onceAccepted, Asked, found, noSuchEntry, below, judging}
 
@@ -95,24 +94,3 @@ groupsListed unlisted s = []
 
 unfoldable pub groupsPart : ℕ → List ℕ → List ℕ
 groupsPart type s = groupsListed (named type) s
-
--- ---- a text by its name, out of the texts of a record, and out of those of a group
-
-abbrev pub textListed : Listed → Text → List ℕ → List ℕ
-textListed (listed m) t ts = textIn t (fields m) ts
-textListed unlisted t ts = []
-
-unfoldable pub textNamed : ℕ → Text → List ℕ → List ℕ
-textNamed type t ts = textListed (named type) t ts
-
-abbrev pub groupText : Behind → Text → List ℕ → List ℕ
-groupText nothing t ts = []
-groupText (groups g) t ts = textIn t (g .fields) ts
-groupText (entries e) t ts = []
-
-abbrev pub groupTextListed : Listed → Text → List ℕ → List ℕ
-groupTextListed (listed m) t ts = groupText (behind m) t ts
-groupTextListed unlisted t ts = []
-
-unfoldable pub groupTextNamed : ℕ → Text → List ℕ → List ℕ
-groupTextNamed type t ts = groupTextListed (named type) t ts

@@ -17,17 +17,6 @@ impl Texts {
     pub const ROOM: usize = 24;
 }
 
-// The texts by name.
-pub enum Text {
-    Stream,
-    Security,
-    Source,
-    Phase,
-    FinancialStatus,
-    NewsId,
-    RejectText,
-}
-
 pub(crate) fn no_texts() -> Texts
     ensures { λ r. ⌜ (r .bytes ≡ filled []) × (r .length ≡ 0) ⌝ }
 {

@@ -2,13 +2,22 @@
 ghost use mathlib.Core.Path.{_≡_};
 ghost use lib.ListN.{take, drop};
 ghost use Rattle.layout.specs.Layout.{fields, order, snapshot, securityStatus, resend, streams, textIn};
-ghost use Rattle.record.specs.Record.{textNamed, groupTextNamed};
-ghost use Rattle.record.specs.Paper.{meant};
-use crate::Record;
-use crate::texts::Text;
+ghost use Rattle.show.specs.Named.{meant, textNamed, groupTextNamed};
+use record::Record;
+
+// The texts by name.
+pub enum Text {
+    Stream,
+    Security,
+    Source,
+    Phase,
+    FinancialStatus,
+    NewsId,
+    RejectText,
+}
 
 // The n bytes from a place on, or those that are left.
-fn span(s: &[u8], at: usize, n: usize) -> &[u8]
+pub fn span(s: &[u8], at: usize, n: usize) -> &[u8]
     ensures { λ r. ⌜ now r ≡ take n (drop at (now (s .entry))) ⌝ }
 {
     let len = s.len();

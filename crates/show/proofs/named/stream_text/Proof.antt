@@ -1,11 +1,11 @@
 use borrow.Author.Needs.{needs}
 use Rattle.layout.specs.Layout.{textIn}
-use Rattle.record.proofs.named.resend_text.Statement.{statement}
-use Rattle.record.proofs.named.resend_text.Tie as tie
+use Rattle.show.proofs.named.stream_text.Statement.{statement}
+use Rattle.show.proofs.named.stream_text.Tie as tie
 
 returns : tie.Need-returns
 unfolding textIn
-returns c = rw (c .before .enum-told .given .1)
+returns c = rw (c .before .enum-told .given .1) (c .span .ensures)
 
 returns-2 : tie.Need-returns-2
 unfolding textIn
@@ -17,7 +17,7 @@ returns-3 c = rw (c .before .enum-told3 .given .1)
 
 returns-4 : tie.Need-returns-4
 unfolding textIn
-returns-4 c = rw (c .before .enum-told4 .given .1)
+returns-4 c = rw (c .before .enum-told4 .given .1) (c .span2 .ensures)
 
 returns-5 : tie.Need-returns-5
 unfolding textIn
@@ -25,28 +25,18 @@ returns-5 c = rw (c .before .enum-told5 .given .1)
 
 returns-6 : tie.Need-returns-6
 unfolding textIn
-returns-6 c = rw (c .before .enum-told6 .given .1) (c .span .ensures)
+returns-6 c = rw (c .before .enum-told6 .given .1)
 
 returns-7 : tie.Need-returns-7
 unfolding textIn
-returns-7 c = rw (c .before .enum-told7 .given .1) (c .span2 .ensures)
+returns-7 c = rw (c .before .enum-told7 .given .1)
 
-pub resend-text-spec : {M : Type 1} → statement M
-resend-text-spec =
+pub stream-text-spec : {M : Type 1} → statement M
+stream-text-spec =
     tie.close
     (tie.spec
     (λ c. search needs)
-    (λ c. search needs)
-    (λ c. search needs)
-    (λ c. search needs)
-    (λ c. search needs)
-    (λ c. search needs)
-    (λ c. search needs)
-    (λ c. search needs)
-    (λ c. search needs)
-    (λ c. search needs)
-    (λ c. search needs)
-    (λ c. search needs)
+    (λ c κs. search needs)
     (λ c. search needs)
     (λ c. search needs)
     (λ c. search needs)
@@ -58,7 +48,17 @@ resend-text-spec =
     (λ c. search needs)
     (λ c κs. search needs)
     (λ c. search needs)
-    (λ c κs. search needs)
+    (λ c. search needs)
+    (λ c. search needs)
+    (λ c. search needs)
+    (λ c. search needs)
+    (λ c. search needs)
+    (λ c. search needs)
+    (λ c. search needs)
+    (λ c. search needs)
+    (λ c. search needs)
+    (λ c. search needs)
+    (λ c. search needs)
     returns
     returns-2
     returns-3

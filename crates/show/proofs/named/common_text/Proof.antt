@@ -1,11 +1,11 @@
 use borrow.Author.Needs.{needs}
 use denote.Ref.{now}
 use mathlib.Core.Path.{ap, sym, _∙_}
-use lib.ListN.{take}
+use lib.ListN.{take, drop}
 use lib.Seq.{drop-drop}
 use Rattle.layout.specs.Layout.{textIn}
-use Rattle.record.proofs.named.order_text.Statement.{statement}
-use Rattle.record.proofs.named.order_text.Tie as tie
+use Rattle.show.proofs.named.common_text.Statement.{statement}
+use Rattle.show.proofs.named.common_text.Tie as tie
 
 returns : tie.Need-returns
 unfolding textIn
@@ -21,7 +21,7 @@ returns-3 c = rw (c .before .enum-told3 .given .1) (c .span3 .ensures ∙ ap (ta
 
 returns-4 : tie.Need-returns-4
 unfolding textIn
-returns-4 c = rw (c .before .enum-told4 .given .1)
+returns-4 c = rw (c .before .enum-told4 .given .1) (c .span4 .ensures ∙ ap (take 8) (sym (ap (drop 4) (drop-drop 8 3 (now (c .before .before .before .before .args .texts))) ∙ drop-drop 4 11 (now (c .before .before .before .before .args .texts)))))
 
 returns-5 : tie.Need-returns-5
 unfolding textIn
@@ -35,8 +35,8 @@ returns-7 : tie.Need-returns-7
 unfolding textIn
 returns-7 c = rw (c .before .enum-told7 .given .1)
 
-pub order-text-spec : {M : Type 1} → statement M
-order-text-spec =
+pub common-text-spec : {M : Type 1} → statement M
+common-text-spec =
     tie.close
     (tie.spec
     (λ c. search needs)
@@ -46,9 +46,7 @@ order-text-spec =
     (λ c. search needs)
     (λ c κs. search needs)
     (λ c. search needs)
-    (λ c. search needs)
-    (λ c. search needs)
-    (λ c. search needs)
+    (λ c κs. search needs)
     (λ c. search needs)
     (λ c. search needs)
     (λ c. search needs)

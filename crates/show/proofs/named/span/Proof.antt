@@ -5,8 +5,8 @@ use mathlib.Core.Path.{_≡_, sym, _∙_}
 use native.Mathlib.Omega.{arith}
 use lib.ListN.{length, drop, length-drop, drop-of-length-le}
 use lib.Seq.{take-all, take-nil}
-use Rattle.record.proofs.named.span.Statement.{statement}
-use Rattle.record.proofs.named.span.Tie as tie
+use Rattle.show.proofs.named.span.Statement.{statement}
+use Rattle.show.proofs.named.span.Tie as tie
 
 returns : tie.Need-returns
 returns c = let g = c .before .before .args in rw (drop-of-length-le (now (g .s)) (c .before .if1 .taken)) (sym (take-nil (g .n)))

@@ -2,10 +2,10 @@ use borrow.Author.Needs.{needs}
 use denote.Ref.{now}
 use mathlib.Core.Path.{_∙_}
 use Rattle.layout.specs.Layout.{statistics}
-use Rattle.record.specs.Paper.{meant}
-use Rattle.record.proofs.Names.{group-texts-as, group-texts-rest}
-use Rattle.record.proofs.named.group_text_of.Statement.{statement}
-use Rattle.record.proofs.named.group_text_of.Tie as tie
+use Rattle.show.specs.Named.{meant}
+use Rattle.show.proofs.Names.{group-texts-as, group-texts-rest}
+use Rattle.show.proofs.named.group_text_of.Statement.{statement}
+use Rattle.show.proofs.named.group_text_of.Tie as tie
 
 returns : tie.Need-returns
 returns c = c .stream-text .ensures ∙ group-texts-as statistics _ _ (c .before .match .keys1)

@@ -5,8 +5,8 @@ use mathlib.Core.Path.{_≡_, refl}
 use mathlib.Core.List.{List, []}
 use Rattle.layout.specs.Kind.{Text}
 use Rattle.layout.specs.Layout.{Message, heartbeat, channelHeartbeat, resend, statistics, securityStatus, snapshot, index, volumeIndex, order, trade, typeNumber, fields, behind, Listed, listed, unlisted, named, textIn}
-use Rattle.record.specs.Record.{textListed, textNamed, groupText, groupTextListed, groupTextNamed}
+use Rattle.show.specs.Named.{textListed, textNamed, groupText, groupTextListed, groupTextNamed}
 use Rattle.record.proofs.Choice.{named-as, named-back, No}
 
 pub texts-as : (m : Message) (w : Text) (ts : List ℕ) {t : ℕ} → t ≡ typeNumber m → textIn w (fields m) ts ≡ textNamed t w ts
 unfolding textNamed

@@ -2,10 +2,10 @@ use borrow.Author.Needs.{needs}
 use denote.Ref.{now}
 use mathlib.Core.Path.{_∙_}
 use Rattle.layout.specs.Layout.{resend, securityStatus, snapshot, index, volumeIndex, order, trade, textIn}
-use Rattle.record.specs.Paper.{meant}
-use Rattle.record.proofs.Names.{texts-as, texts-rest}
-use Rattle.record.proofs.named.text_of.Statement.{statement}
-use Rattle.record.proofs.named.text_of.Tie as tie
+use Rattle.show.specs.Named.{meant}
+use Rattle.show.proofs.Names.{texts-as, texts-rest}
+use Rattle.show.proofs.named.text_of.Statement.{statement}
+use Rattle.show.proofs.named.text_of.Tie as tie
 
 returns : tie.Need-returns
 unfolding textIn
