@@ -3,6 +3,7 @@
 
 pub mod compare;
 pub mod inputs;
+pub mod layout;
 pub mod product;
 pub mod receiver;
 pub mod second;

@@ -1,8 +1,9 @@
 //! The C header's declarations in Rust, and what each struct, field, call
 //! and number is called there, for the test that holds one to the other.
 
+use crate::layout;
 use crate::receiver::{Cursor, Tracker, CHANNELS, RUNS, TEXTS};
-use crate::second::layout;
+use crate::second::rules::Rules;
 use std::mem::{offset_of, size_of};
 
 /// The texts of a record or a group, one behind the other.
@@ -416,7 +417,7 @@ calls! {
 trackers! {
     tracking:
     fn orizhgum_tick_in = "orizhgum_tick" (*mut, channel: u16, number: i64) -> u32;
-    fn orizhgum_heartbeat_in = "orizhgum_heartbeat" (*mut, channel: u16, last_number: i64, end: u8) -> u32;
+    fn orizhgum_heard_in = "orizhgum_heard" (*mut, channel: u16, last_number: i64, end: u8) -> u32;
     fn orizhgum_request_in = "orizhgum_request" (*const, channel: u16, out: *mut u8, out_length: usize) -> WriteAnswer;
 }
 
@@ -505,5 +506,45 @@ pub fn numbers() -> String {
             layout::CHANNEL_HEARTBEAT = "CHANNEL_HEARTBEAT",
             CHANNELS = "CHANNELS",
             RUNS = "RUNS",
+            TEXTS = "TEXTS",
         }
+        + &sizes()
+}
+
+/// C's assertions about sizes, texts, decimals and the version.
+fn sizes() -> String {
+    let rules = Rules::base();
+    let (header, checksum) = (8, 4);
+    let request = layout::layout(layout::RESEND).map_or(0, layout::Layout::fixed);
+    let named = [
+        ("HEADER", header),
+        ("CHECKSUM", checksum),
+        ("BODY_LIMIT", rules.body_limit),
+        ("FRAME_LIMIT", header + rules.body_limit + checksum),
+        ("REQUEST", header + request + checksum),
+        ("PRICE_DECIMALS", rules.price_decimals),
+        ("ENTRY_PRICE_DECIMALS", rules.entry_price_decimals),
+        ("QUANTITY_DECIMALS", rules.quantity_decimals),
+        ("AMOUNT_DECIMALS", rules.amount_decimals),
+        ("VERSION_MAJOR", VERSION[0]),
+        ("VERSION_MINOR", VERSION[1]),
+        ("VERSION_PATCH", VERSION[2]),
+    ];
+    let mut lines = String::new();
+    for (name, number) in named {
+        lines += &equal(&format!("ORIZHGUM_{name}"), number);
+    }
+    for layout in layout::LISTED.iter().filter(|layout| layout.texts() > 0) {
+        let name = layout.name.replace(' ', "_").to_uppercase();
+        lines += &equal(&format!("ORIZHGUM_{name}_TEXTS"), layout.texts());
+    }
+    lines + &equal("sizeof ORIZHGUM_VERSION", version().len() + 1)
+}
+
+/// The version's three numbers.
+const VERSION: [usize; 3] = [0, 1, 0];
+
+/// The version as one text.
+pub fn version() -> String {
+    VERSION.map(|number| number.to_string()).join(".")
 }

@@ -5,12 +5,12 @@
 pub mod header;
 mod numbers;
 
+use crate::layout::*;
 use crate::receiver::{
     ArrivalAnswer, Cursor, Draft, Entry, Found, FrameAnswer, Group, PriceAnswer, ReadAnswer,
     Receiver, Record, RequestAnswer, Says, SetUpAnswer, StepAnswer, Tracker, Verdict, WriteAnswer,
     NUMBERS, TEXTS,
 };
-use crate::second::layout::*;
 use header::*;
 use numbers::Numbers;
 use std::ptr;
@@ -376,7 +376,7 @@ impl Receiver for Product {
 
     fn heartbeat(&self, tracker: &Tracker, channel: u16, last: i64, end: u8) -> ArrivalAnswer {
         let mut next = *tracker;
-        let verdict = match lend!(orizhgum_heartbeat_in, next, as_mut_ptr, channel, last, end) {
+        let verdict = match lend!(orizhgum_heard_in, next, as_mut_ptr, channel, last, end) {
             0 => Verdict::Heard,
             answer => Verdict::Refused(answer),
         };

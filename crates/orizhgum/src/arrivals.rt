@@ -86,7 +86,7 @@ pub extern "C" fn orizhgum_tick_in(
 
 // A channel heartbeat, in the same way; end 0 is no, anything else yes.
 #[no_mangle]
-pub extern "C" fn orizhgum_heartbeat_in(
+pub extern "C" fn orizhgum_heard_in(
     count: usize,
     numbers: &[u16; Tracker::CHANNELS],
     highest: &mut [u64; Tracker::CHANNELS],
