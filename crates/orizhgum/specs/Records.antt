@@ -2,15 +2,13 @@
 -- Assumes nothing.
 use Prim.Native.Nat.{ℕ}
 use mathlib.Core.List.{List, []}
-use lib.ListN.{length}
 use Rattle.wire.specs.Answer.{Answer, accepted, refused}
 use Rattle.layout.specs.Layout.{Message, Listed, listed, unlisted}
-use Rattle.record.specs.Asked.{Told, judgedAs}
+use Rattle.record.specs.Asked.{judgedAs}
 use Rattle.record.specs.Record.{Reading, numbersAs, readAs}
 use Rattle.record.specs.Paper.{paperRecord}
 use Rattle.record.specs.declared.Record.{Record}
 use Rattle.orizhgum.specs.Numbers.{answerNumber, unknownNumber}
-use Rattle.orizhgum.specs.declared.records.Heard.{Heard}
 
 -- C3: how a body of a type reads: plainly or refused by 4 or 5; a type that is not listed is unknown
 abbrev pub judgedNumber : Listed → List ℕ → ℕ
@@ -40,13 +38,3 @@ shown m s =
 -- the code's answer in these terms
 abbrev pub shownAs : ℕ → Record → List ℕ → Shown
 shownAs n r ts = record { answer = n; numbers = paperRecord r; texts = ts }
-
--- the bytes that the numbers are read from: all of them, or none of a refused body
-abbrev pub readFrom : Answer Reading → List ℕ → List ℕ
-readFrom (accepted r) s = s
-readFrom (refused n vs) s = []
-
--- an answer's number and texts, and how many bytes the numbers are read from
-abbrev pub heardOf : Told Reading → List ℕ → Heard
-heardOf t s =
-    record { answer = answerNumber (t .answer); texts = t .texts; length = length (readFrom (t .answer) s) }

@@ -74,15 +74,14 @@ pub fn order_of(body: &[u8]) -> Order
             order_type: 0,
         };
     }
-    let b = &body[0..order::SIZE];
     Order {
-        channel: wire::be2(b, order::CHANNEL),
-        number: wire::i64_at(b, order::NUMBER),
-        order_price: wire::i64_at(b, order::PRICE),
-        quantity: wire::i64_at(b, order::QUANTITY),
-        side: wire::be1(b, order::SIDE),
-        time: wire::i64_at(b, order::TIME),
-        order_type: wire::be1(b, order::ORDER_TYPE),
+        channel: wire::be2(body, order::CHANNEL),
+        number: wire::i64_at(body, order::NUMBER),
+        order_price: wire::i64_at(body, order::PRICE),
+        quantity: wire::i64_at(body, order::QUANTITY),
+        side: wire::be1(body, order::SIDE),
+        time: wire::i64_at(body, order::TIME),
+        order_type: wire::be1(body, order::ORDER_TYPE),
     }
 }
 

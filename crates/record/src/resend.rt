@@ -1,17 +1,21 @@
 // 390094, resend; its texts are news id and reject text.
 ghost use mathlib.Core.Path.{_≡_};
-ghost use Rattle.layout.specs.Layout.{fields, ranges};
+ghost use lib.ListN.{length};
+ghost use Rattle.layout.specs.Layout.{fields, ranges, texts};
 ghost use Rattle.layout.specs.Layout as of;
 ghost use Rattle.layout.specs.Group.{judged};
 ghost use Rattle.layout.specs.Paper as layout_paper;
+ghost use Rattle.record.specs.Asked.{filled};
 ghost use Rattle.record.specs.Paper.{paper, paperRecord};
-ghost use Rattle.record.specs.Record.{numbersAs, readAs};
+ghost use Rattle.record.specs.Record.{numbersAs, had, readAs};
 ghost use Rattle.record.specs.declared.Record.the-variants as is;
 use crate::Answer;
 use crate::Reading;
 use crate::Record;
 use crate::refused;
+use crate::texts::Texts;
 use crate::texts::gather;
+use crate::texts::no_texts;
 use layout::Refusal;
 use layout::Verdict;
 use layout::natural_in_range;
@@ -40,7 +44,7 @@ fn in_range(body: &[u8]) -> bool
 }
 
 // 4 where the body lacks bytes, else 5 where a field is out of range.
-pub(crate) fn judge(body: &[u8]) -> Verdict
+pub fn judge_resend(body: &[u8]) -> Verdict
     ensures { λ r. ⌜ layout_paper.paper r ≡ judged of.resend (now (body .entry)) ⌝ }
 {
     if body.len() < resend::SIZE {
@@ -49,10 +53,19 @@ pub(crate) fn judge(body: &[u8]) -> Verdict
     Verdict::Accepted.also(in_range(body))
 }
 
-// The numbers of some bytes as a resend's, not judged.
+// The numbers of a resend that some bytes have; all 0 where they lack some of its fields.
 pub fn resend_of(body: &[u8]) -> Resend
-    ensures { λ r. ⌜ paperRecord (is.Resend r) ≡ numbersAs of.resend (now (body .entry)) ⌝ }
+    ensures { λ r. ⌜ paperRecord (is.Resend r) ≡ numbersAs of.resend (had of.resend (now (body .entry))) ⌝ }
 {
+    if body.len() < resend::SIZE {
+        return Resend {
+            resend_type: 0,
+            channel: 0,
+            first_number: 0,
+            last_number: 0,
+            status: 0,
+        };
+    }
     Resend {
         resend_type: wire::be1(body, resend::RESEND_TYPE),
         channel: wire::be2(body, resend::CHANNEL),
@@ -62,19 +75,29 @@ pub fn resend_of(body: &[u8]) -> Resend
     }
 }
 
+// The texts of a resend that some bytes have; none where they lack some of its fields.
+pub fn resend_texts(body: &[u8]) -> Texts
+    ensures { λ r. ⌜ (r .bytes ≡ filled (texts (fields of.resend) (had of.resend (now (body .entry))) 0)) × (r .length ≡ length (texts (fields of.resend) (had of.resend (now (body .entry))) 0)) ⌝ }
+{
+    if body.len() < resend::SIZE {
+        return no_texts();
+    }
+    gather(
+        body,
+        resend::NEWS_ID,
+        width::NEWS_ID,
+        resend::REJECT_TEXT,
+        width::REJECT_TEXT,
+    )
+}
+
 pub(crate) fn read(body: &[u8]) -> Reading
     ensures { λ r. ⌜ paper r ≡ readAs of.resend (now (body .entry)) ⌝ }
 {
-    match judge(body) {
+    match judge_resend(body) {
         Verdict::Accepted => Reading {
             answer: Answer::Read(Record::Resend(resend_of(body))),
-            texts: gather(
-                body,
-                resend::NEWS_ID,
-                width::NEWS_ID,
-                resend::REJECT_TEXT,
-                width::REJECT_TEXT,
-            ),
+            texts: resend_texts(body),
         },
         Verdict::Refused(x) => refused(x),
     }

@@ -1,11 +1,13 @@
 // 390013, security status; its texts are security, source and financial status.
 ghost use mathlib.Core.Path.{_≡_};
-ghost use Rattle.layout.specs.Layout.{fields, ranges};
+ghost use lib.ListN.{length};
+ghost use Rattle.layout.specs.Layout.{fields, ranges, texts};
 ghost use Rattle.layout.specs.Layout as of;
 ghost use Rattle.layout.specs.Group.{judged};
 ghost use Rattle.layout.specs.Paper as layout_paper;
+ghost use Rattle.record.specs.Asked.{filled};
 ghost use Rattle.record.specs.Paper.{paper, paperRecord, paperGroup};
-ghost use Rattle.record.specs.Record.{groupAs, numbersAs, readAs};
+ghost use Rattle.record.specs.Record.{groupAs, numbersAs, had, readAs};
 ghost use Rattle.record.specs.declared.Record.the-variants as is;
 ghost use Rattle.wire.specs.Answer.{accepted};
 use crate::Answer;
@@ -15,6 +17,7 @@ use crate::group::GroupAnswer;
 use crate::group::GroupReading;
 use crate::group::no_group;
 use crate::refused;
+use crate::texts::Texts;
 use crate::texts::gather;
 use crate::texts::no_texts;
 use layout::Groups;
@@ -45,7 +48,7 @@ fn in_range(body: &[u8]) -> bool
 }
 
 // 4 where the body lacks bytes, else 5 where a field is out of range.
-pub(crate) fn judge(body: &[u8]) -> Verdict
+pub fn judge_security_status(body: &[u8]) -> Verdict
     ensures { λ r. ⌜ layout_paper.paper r ≡ judged of.securityStatus (now (body .entry)) ⌝ }
 {
     if body.len() < security_status::SIZE {
@@ -59,10 +62,17 @@ pub(crate) fn judge(body: &[u8]) -> Verdict
     ).also(in_range(body))
 }
 
-// The numbers of some bytes as a security status's, not judged.
+// The numbers of a security status that some bytes have; all 0 where they lack some of its fields.
 pub fn security_status_of(body: &[u8]) -> SecurityStatus
-    ensures { λ r. ⌜ paperRecord (is.SecurityStatus r) ≡ numbersAs of.securityStatus (now (body .entry)) ⌝ }
+    ensures { λ r. ⌜ paperRecord (is.SecurityStatus r) ≡ numbersAs of.securityStatus (had of.securityStatus (now (body .entry))) ⌝ }
 {
+    if body.len() < security_status::SIZE {
+        return SecurityStatus {
+            time: 0,
+            channel: 0,
+            count: 0,
+        };
+    }
     SecurityStatus {
         time: wire::i64_at(body, security_status::TIME),
         channel: wire::be2(body, security_status::CHANNEL),
@@ -70,19 +80,29 @@ pub fn security_status_of(body: &[u8]) -> SecurityStatus
     }
 }
 
+// The texts of a security status that some bytes have; none where they lack some of its fields.
+pub fn security_status_texts(body: &[u8]) -> Texts
+    ensures { λ r. ⌜ (r .bytes ≡ filled (texts (fields of.securityStatus) (had of.securityStatus (now (body .entry))) 0)) × (r .length ≡ length (texts (fields of.securityStatus) (had of.securityStatus (now (body .entry))) 0)) ⌝ }
+{
+    if body.len() < security_status::SIZE {
+        return no_texts();
+    }
+    gather(
+        body,
+        security_status::SECURITY,
+        security_status::TEXTS_SIZE,
+        0,
+        0,
+    )
+}
+
 pub(crate) fn read(body: &[u8]) -> Reading
     ensures { λ r. ⌜ paper r ≡ readAs of.securityStatus (now (body .entry)) ⌝ }
 {
-    match judge(body) {
+    match judge_security_status(body) {
         Verdict::Accepted => Reading {
             answer: Answer::Read(Record::SecurityStatus(security_status_of(body))),
-            texts: gather(
-                body,
-                security_status::SECURITY,
-                security_status::TEXTS_SIZE,
-                0,
-                0,
-            ),
+            texts: security_status_texts(body),
         },
         Verdict::Refused(x) => refused(x),
     }

@@ -1,11 +1,13 @@
 // 390090, statistics.
 ghost use mathlib.Core.Path.{_≡_};
-ghost use Rattle.layout.specs.Layout.{fields, ranges};
+ghost use lib.ListN.{length};
+ghost use Rattle.layout.specs.Layout.{fields, ranges, texts};
 ghost use Rattle.layout.specs.Layout as of;
 ghost use Rattle.layout.specs.Group.{judged};
 ghost use Rattle.layout.specs.Paper as layout_paper;
+ghost use Rattle.record.specs.Asked.{filled};
 ghost use Rattle.record.specs.Paper.{paper, paperRecord, paperGroup};
-ghost use Rattle.record.specs.Record.{groupAs, numbersAs, readAs};
+ghost use Rattle.record.specs.Record.{groupAs, numbersAs, had, readAs};
 ghost use Rattle.record.specs.declared.Record.the-variants as is;
 ghost use Rattle.wire.specs.Answer.{accepted};
 use crate::Answer;
@@ -15,6 +17,7 @@ use crate::group::GroupAnswer;
 use crate::group::GroupReading;
 use crate::group::no_group;
 use crate::refused;
+use crate::texts::Texts;
 use crate::texts::gather;
 use crate::texts::no_texts;
 use layout::Groups;
@@ -45,7 +48,7 @@ fn in_range(body: &[u8]) -> bool
 }
 
 // 4 where the body lacks bytes, else 5 where a field is out of range.
-pub(crate) fn judge(body: &[u8]) -> Verdict
+pub fn judge_statistics(body: &[u8]) -> Verdict
     ensures { λ r. ⌜ layout_paper.paper r ≡ judged of.statistics (now (body .entry)) ⌝ }
 {
     if body.len() < statistics::SIZE {
@@ -59,10 +62,17 @@ pub(crate) fn judge(body: &[u8]) -> Verdict
     ).also(in_range(body))
 }
 
-// The numbers of some bytes as a statistics's, not judged.
+// The numbers of a statistics record that some bytes have; all 0 where they lack some of its fields.
 pub fn statistics_of(body: &[u8]) -> Statistics
-    ensures { λ r. ⌜ paperRecord (is.Statistics r) ≡ numbersAs of.statistics (now (body .entry)) ⌝ }
+    ensures { λ r. ⌜ paperRecord (is.Statistics r) ≡ numbersAs of.statistics (had of.statistics (now (body .entry))) ⌝ }
 {
+    if body.len() < statistics::SIZE {
+        return Statistics {
+            time: 0,
+            channel: 0,
+            count: 0,
+        };
+    }
     Statistics {
         time: wire::i64_at(body, statistics::TIME),
         channel: wire::be2(body, statistics::CHANNEL),
@@ -70,13 +80,20 @@ pub fn statistics_of(body: &[u8]) -> Statistics
     }
 }
 
+// It has no texts.
+pub fn statistics_texts(body: &[u8]) -> Texts
+    ensures { λ r. ⌜ (r .bytes ≡ filled (texts (fields of.statistics) (had of.statistics (now (body .entry))) 0)) × (r .length ≡ length (texts (fields of.statistics) (had of.statistics (now (body .entry))) 0)) ⌝ }
+{
+    no_texts()
+}
+
 pub(crate) fn read(body: &[u8]) -> Reading
     ensures { λ r. ⌜ paper r ≡ readAs of.statistics (now (body .entry)) ⌝ }
 {
-    match judge(body) {
+    match judge_statistics(body) {
         Verdict::Accepted => Reading {
             answer: Answer::Read(Record::Statistics(statistics_of(body))),
-            texts: no_texts(),
+            texts: statistics_texts(body),
         },
         Verdict::Refused(x) => refused(x),
     }

@@ -81,16 +81,15 @@ pub fn trade_of(body: &[u8]) -> Trade
             time: 0,
         };
     }
-    let b = &body[0..trade::SIZE];
     Trade {
-        channel: wire::be2(b, trade::CHANNEL),
-        number: wire::i64_at(b, trade::NUMBER),
-        bid_number: wire::i64_at(b, trade::BID_NUMBER),
-        offer_number: wire::i64_at(b, trade::OFFER_NUMBER),
-        trade_price: wire::i64_at(b, trade::PRICE),
-        quantity: wire::i64_at(b, trade::QUANTITY),
-        execution: wire::be1(b, trade::EXECUTION),
-        time: wire::i64_at(b, trade::TIME),
+        channel: wire::be2(body, trade::CHANNEL),
+        number: wire::i64_at(body, trade::NUMBER),
+        bid_number: wire::i64_at(body, trade::BID_NUMBER),
+        offer_number: wire::i64_at(body, trade::OFFER_NUMBER),
+        trade_price: wire::i64_at(body, trade::PRICE),
+        quantity: wire::i64_at(body, trade::QUANTITY),
+        execution: wire::be1(body, trade::EXECUTION),
+        time: wire::i64_at(body, trade::TIME),
     }
 }
 

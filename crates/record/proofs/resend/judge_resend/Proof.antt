@@ -4,8 +4,8 @@ use mathlib.Core.Path.{sym, _∙_}
 use Rattle.layout.proofs.Walk.{judged-short, judged-long, judged-nothing}
 use Rattle.layout.specs.Group.{also}
 use Rattle.layout.specs.Layout.{resend, size}
-use Rattle.record.proofs.resend.judge.Statement.{statement}
-use Rattle.record.proofs.resend.judge.Tie as tie
+use Rattle.record.proofs.resend.judge_resend.Statement.{statement}
+use Rattle.record.proofs.resend.judge_resend.Tie as tie
 
 returns : tie.Need-returns
 unfolding size
@@ -19,5 +19,5 @@ returns-2 c =
     ∙ (λ i. also (c .before .in-range .ensures i) (sym (judged-nothing s 44) i))
     ∙ sym (judged-long resend s (c .before .before .if1 .left))
 
-pub judge-spec : {M : Type 1} → statement M
-judge-spec = tie.close (tie.spec returns (λ c κs. search needs) (λ c κs. search needs) returns-2)
+pub judge-resend-spec : {M : Type 1} → statement M
+judge-resend-spec = tie.close (tie.spec returns (λ c κs. search needs) (λ c κs. search needs) returns-2)

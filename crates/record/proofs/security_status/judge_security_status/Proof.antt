@@ -5,8 +5,8 @@ use mathlib.Core.Path.{ap, sym, _∙_}
 use Rattle.layout.proofs.Walk.{judged-short, judged-long}
 use Rattle.layout.specs.Group.{also, judgedFrom}
 use Rattle.layout.specs.Layout.{securityStatus, switches, size}
-use Rattle.record.proofs.security_status.judge.Statement.{statement}
-use Rattle.record.proofs.security_status.judge.Tie as tie
+use Rattle.record.proofs.security_status.judge_security_status.Statement.{statement}
+use Rattle.record.proofs.security_status.judge_security_status.Tie as tie
 
 returns : tie.Need-returns
 unfolding size
@@ -20,8 +20,8 @@ returns-2 c =
     ∙ (λ i. also (c .before .in-range .ensures i) ((c .before .before .judge .ensures ∙ ap (λ (k : ℕ). judgedFrom switches s 34 k) (c .before .before .before .be4 .ensures)) i))
     ∙ sym (judged-long securityStatus s (c .before .before .before .before .if1 .left))
 
-pub judge-spec : {M : Type 1} → statement M
-judge-spec =
+pub judge-security-status-spec : {M : Type 1} → statement M
+judge-security-status-spec =
     tie.close
     (tie.spec
     returns

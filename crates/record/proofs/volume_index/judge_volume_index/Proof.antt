@@ -1,4 +1,4 @@
-use borrow.Author.Needs.{needs}
+use native.Mathlib.Omega.{arith}
 use denote.Ref.{now}
 use mathlib.Core.Path.{sym, _∙_}
 use Rattle.layout.proofs.Free.{free-stock-number}
@@ -7,8 +7,12 @@ use Rattle.layout.specs.Group.{also}
 use Rattle.layout.specs.Kind.{stockNumber}
 use Rattle.layout.specs.Layout.{volumeIndex, size}
 use Rattle.record.proofs.Tell.{common-and}
-use Rattle.record.proofs.volume_index.judge.Statement.{statement}
-use Rattle.record.proofs.volume_index.judge.Tie as tie
+use Rattle.record.proofs.volume_index.judge_volume_index.Statement.{statement}
+use Rattle.record.proofs.volume_index.judge_volume_index.Tie as tie
+
+common-in-requires : tie.Need-common-in-requires
+unfolding size
+common-in-requires c κs = omega arith
 
 returns : tie.Need-returns
 unfolding size
@@ -22,5 +26,5 @@ returns-2 c =
     ∙ (λ i. also ((c .before .common-in .ensures ∙ common-and stockNumber free-stock-number s) i) (sym (judged-nothing s 69) i))
     ∙ sym (judged-long volumeIndex s (c .before .before .if1 .left))
 
-pub judge-spec : {M : Type 1} → statement M
-judge-spec = tie.close (tie.spec returns (λ c κs. search needs) (λ c κs. search needs) returns-2)
+pub judge-volume-index-spec : {M : Type 1} → statement M
+judge-volume-index-spec = tie.close (tie.spec returns common-in-requires (λ c κs. tt) returns-2)
