@@ -77,7 +77,7 @@ in-turn b (success {x}) r f = f x refl
 in-turn b (here {r = q} {rs} {vs} w) r f = answered (r (q .number) vs refl) (here w)
 in-turn b (later n j) r f = later n (in-turn b j r f)
 
-not-both : {A C : Type 0} {n : ℕ} {vs : List ℕ} → Accepted {A = A} (refused n vs) → C
+pub not-both : {A C : Type 0} {n : ℕ} {vs : List ℕ} → Accepted {A = A} (refused n vs) → C
 not-both = elim [ ]
 
 -- an answer that is judged is accepted exactly where no condition holds

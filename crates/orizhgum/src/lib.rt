@@ -6,11 +6,11 @@ use frame::Framed;
 
 mod answers;
 pub mod arrivals;
-mod entry;
-mod groups;
+pub mod entry;
+pub mod groups;
 pub mod records;
 pub mod requested;
-mod written;
+pub mod written;
 
 // The frame that some bytes begin with: its type, the body's length and the length of the frame; zeros where it is refused.
 #[repr(C)]
