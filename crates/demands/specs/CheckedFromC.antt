@@ -34,6 +34,7 @@ use Rattle.orizhgum.proofs.written.orizhgum_write_volume_index as write-volume-
 use Rattle.orizhgum.proofs.written.orizhgum_write_statistics as write-statistics
 use Rattle.orizhgum.proofs.written.orizhgum_write_security_status as write-security-status
 
+-- D11: each call of the C interface
 pub record CheckedFromC : Type 2 where
   pub frame : Proved frame.Statement.statement 1 frame.Kinds.ps frame.Kinds.r frame.Reads.Ghost frame.Reads.requires frame.Reads.ensures frame.Reads.Asked frame.Reads.Learnt
   pub judge : Proved judge.Statement.statement 1 judge.Kinds.ps judge.Kinds.r judge.Reads.Ghost judge.Reads.requires judge.Reads.ensures judge.Reads.Asked judge.Reads.Learnt

@@ -19,23 +19,23 @@ use Rattle.tracker.specs.declared.Tracker.{Tracker}
 use Rattle.demands.specs.Rules.{Rule, _if_}
 use Rattle.demands.specs.Conditions.{L, SumDiffers, Lacks, Strays, behindOf, EntryLacks, EntryStrays, Exactly, NumberOut, SomeGroupOut, Falls, Keeps, NotIn, Low, Overfills, RequestShort}
 
--- the bytes of a frame
+-- R1, R2, J1: the bytes of a frame
 abbrev pub frameRules : List ℕ → List Rule
 frameRules s = tooShort if (length s < 8) ∷ tooLong if (bodyLimit < L s) ∷ tooShort if (length s < 12 + L s) ∷ wrongSum if SumDiffers s ∷ []
 
--- a type's number and a body: 4 is judged for all of it before 5
+-- J2: a type's number and a body: 4 is judged for all of it before 5
 abbrev pub bodyRules : ℕ → List ℕ → List Rule
 bodyRules type b = notItsLayout if Lacks (named type) b ∷ outOfRange if Strays (named type) b ∷ []
 
--- a frame, then the body between its header and its checksum
+-- F6, J1: a frame, then the body between its header and its checksum
 abbrev pub readerRules : List ℕ → List Rule
 readerRules s = frameRules s ++ bodyRules (beAt s 0 4) (part 8 (8 + L s) s)
 
--- at a cursor: one entry
+-- A6: at a cursor: one entry
 abbrev pub stepRules : ℕ → List ℕ → At → List Rule
 stepRules type b c = notItsLayout if EntryLacks (behindOf (named type)) b c ∷ outOfRange if EntryStrays (behindOf (named type)) b c ∷ []
 
--- the writer: a type that is not listed, then texts and groups, ranges, the length of the body, the room
+-- R2, R5, R6, J3: the writer: a type that is not listed, then texts and groups, ranges, the length of the body, the room
 abbrev pub writerRules : Reading → List ℕ → List ℕ → ℕ → List Rule
 writerRules (unknown type) ts gs room = outOfRange if Unit ∷ []
 writerRules (known m zs) ts gs room =
@@ -45,14 +45,14 @@ writerRules (known m zs) ts gs room =
     ∷ outputShort if (room < 12 + bodyLength m gs)
     ∷ []
 
--- a list of channels
+-- T1, R10: a list of channels
 abbrev pub setUpRules : List ℕ → List Rule
 setUpRules numbers = malformed if (length numbers ≡ 0) ∷ malformed if (channelLimit < length numbers) ∷ malformed if Falls numbers ∷ []
 
--- an arrival on channel k; the rules of the tracker itself come first
+-- J4: an arrival on channel k; the rules of the tracker itself come first
 abbrev pub arrivalRules : Tracker → ℕ → Event → List Rule
 arrivalRules t k e = malformed if (Keeps t → ⊥) ∷ noSuchChannel if NotIn t k ∷ numberTooLow if Low e ∷ tableFull if Overfills t k e ∷ []
 
--- a request for channel k
+-- J5: a request for channel k
 abbrev pub requestRules : Tracker → ℕ → ℕ → List Rule
 requestRules t k room = malformed if (Keeps t → ⊥) ∷ noSuchChannel if NotIn t k ∷ outputShort if RequestShort t k room ∷ []

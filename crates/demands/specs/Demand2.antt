@@ -40,13 +40,13 @@ abbrev pub NoneOf : List Rule → Type 0
 NoneOf [] = Unit
 NoneOf (r ∷ rs) = (r .when → ⊥) × NoneOf rs
 
--- the reader accepts exactly the frames that none of 1 to 5 describes
+-- D21: the reader accepts exactly the frames that none of 1 to 5 describes
 abbrev pub Reader : Type 0
 Reader = (s : List ℕ) (x : FrameReading) → ReadFrame s x → Accepted (paperFrame x .answer) ↔ NoneOf (readerRules s)
 
 -- ---- a type that is not listed
 
--- is answered as unknown, with its number; and its body is lent as that of any other frame
+-- L6: is answered as unknown, with its number; and its body is lent as that of any other frame
 pub record AsUnknown (s : List ℕ) (f : Frame) (x : FrameReading) (b : List ℕ) : Type 0 where
   pub type : paperFrame x .answer ≡ accepted (unknown (f .kind))
   pub body : b ≡ part 8 (8 + f .len) s
@@ -58,11 +58,12 @@ Unlisted =
 
 -- ---- the bytes that each type's body takes
 
--- the shown counts of the first k entries of a snapshot, added up
+-- L5: the shown counts of the first k entries of a snapshot, added up
 abbrev pub shownSum : List ℕ → ℕ → ℕ
 shownSum b zero = 0
 shownSum b (suc k) = shownSum b k + shown snapshotEntries b (place snapshotEntries b 69 k)
 
+-- L3: the bytes of each type with its groups
 abbrev pub bytesOf : Message → List ℕ → ℕ
 bytesOf heartbeat b = 0
 bytesOf channelHeartbeat b = 12
@@ -75,7 +76,7 @@ bytesOf volumeIndex b = 69
 bytesOf order b = 51
 bytesOf trade b = 66
 
--- a body is refused by 4 exactly where it has fewer
+-- R4: a body is refused by 4 exactly where it has fewer
 abbrev pub Column : Type 0
 Column =
     (m : Message) (b : List ℕ) (r : code-reading.Reading) → Read (typeNumber m) b r →
@@ -87,6 +88,7 @@ Column =
 abbrev pub Unmoved : {R A B : Type 0} → (R → A) → (A → Answer B) → (R → Type 0) → (R → Type 0) → Type 0
 Unmoved {R} paper answer Can Longer = (r u : R) → Can r → Longer u → Accepted (answer (paper r)) → paper u ≡ paper r
 
+-- F5, L7: by each call that reads
 pub record Tail (b t : List ℕ) : Type 0 where
   pub read-frame : Unmoved paperFrame (λ a. a .answer) (ReadFrame b) (ReadFrame (b ++ t))
   pub read : (type : ℕ) → Unmoved record-paper.paper (λ a. a .answer) (Read type b) (Read type (b ++ t))
@@ -96,18 +98,20 @@ pub record Tail (b t : List ℕ) : Type 0 where
 
 -- ---- the writer, likewise
 
+-- D21: the writer accepts exactly what none of its refusals describes
 abbrev pub Writer : Type 0
 Writer =
     (r : Record) (ts gs out after : List ℕ) (a : Written) → Write r ts gs out a after →
     Accepted (paper a) ↔ NoneOf (writerRules (paperRecord r) ts gs (length out))
 
--- written: header, body by layout, checksum, and the old bytes behind them; refused: every byte as it stood
+-- W2: written: header, body by layout, checksum, and the old bytes behind them; refused: every byte as it stood
 pub data Leaves (out : List ℕ) : Answer ℕ → Reading → List ℕ → List ℕ → List ℕ → Type 0 where
   frame-first :
       {m : Message} {zs : List ℤ} {ts gs : List ℕ} {n : ℕ} → n ≡ 12 + bodyLength m gs →
       Leaves out (accepted n) (known m zs) ts gs (frameOf (typeNumber m) (body m zs ts gs) ++ drop n out)
   as-it-stood : {n : ℕ} {vs : List ℕ} {x : Reading} {ts gs : List ℕ} → Leaves out (refused n vs) x ts gs out
 
+-- D21: what the output holds after every call
 abbrev pub Output : Type 0
 Output =
     (r : Record) (ts gs out after : List ℕ) (a : Written) → Write r ts gs out a after → Leaves out (paper a) (paperRecord r) ts gs after
@@ -127,7 +131,7 @@ pub record Reads (x : Reading) (ts gs : List ℕ) (n : ℕ) (s : List ℕ) : Typ
   pub fields : frameReading s ≡ told (accepted x) ts
   pub groups : groupsPart (frame .kind) (bodyOf headerWidth (accepted frame) s) ≡ gs
 
--- whatever stood in the output before, and so behind the frame
+-- D22: whatever stood in the output before, and so behind the frame
 abbrev pub ReadsBack : Type 0
 ReadsBack =
     (r : Record) (ts gs out after : List ℕ) (a : Written) (n : ℕ) → Held (paperRecord r) → Write r ts gs out a after →
@@ -135,9 +139,11 @@ ReadsBack =
 
 -- ---- what is read is written again with the same bytes
 
+-- L7: a body that ends with its layout
 abbrev pub NoTail : Message → List ℕ → Type 0
 NoTail m b = needs m b ≡ length b
 
+-- D23: an accepted frame, in any room that it fits, is written as it was read
 abbrev pub SameBytes : Type 0
 SameBytes =
     (s out after : List ℕ) (f : Frame) (m : Message) (x : FrameReading) (r : Record) (a : Written) → Bytes s →

@@ -59,11 +59,11 @@ use Rattle.demands.specs.Play.{Callable, Turn, Play, arrivals, Fresh}
 
 -- ---- demand 1: the numbers
 
--- a number that is no refusal's: the plain answer, or one of the others
+-- C1: a number that is no refusal's: the plain answer, or one of the others
 abbrev pub NoRefusal : ℕ → Type 0
 NoRefusal n = (n ≡ plain) ⊎ (unknownNumber ≤ n)
 
--- the number is that of the first rule whose condition holds, and no refusal's exactly where none does
+-- J6: the number is that of the first rule whose condition holds, and no refusal's exactly where none does
 pub data NumberBy : List Rule → ℕ → Type 1 where
   success : {n : ℕ} → NoRefusal n → NumberBy [] n
   here : {r : Rule} {rs : List Rule} → r .when → NumberBy (r ∷ rs) (r .number)
@@ -79,6 +79,7 @@ pub record PlainBy {S : Type 0} (rules : List Rule) (n : ℕ) (stood left : S) :
   pub number : NumberBy rules n
   pub same : (n ≡ plain → ⊥) → left ≡ stood
 
+-- D12: each call, by its number
 pub record Refusals : Type 1 where
   -- `orizhgum_frame`
   pub frame : (s : List ℕ) (r : FrameAnswer) → FrameFromC s r → NumberBy (frameRules s) (r .answer)
@@ -117,15 +118,16 @@ pub record Refusals : Type 1 where
 
 -- ---- fields, texts and outputs: what the library's call can answer of the same input, in the interface's struct
 
--- a judged body's number; a type that is not listed is unknown
+-- C3: a judged body's number; a type that is not listed is unknown
 abbrev pub judgedBy : Listed → Answer Unit → ℕ
 judgedBy (listed m) a = answerNumber a
 judgedBy unlisted a = unknownNumber
 
--- the number, the struct and the texts of a body that was read; the struct of a refusal is zeros
+-- C4: the number, the struct and the texts of a body that was read; the struct of a refusal is zeros
 abbrev pub shownOf : Message → Told record-of.Reading → Shown
 shownOf m t = record { answer = answerNumber (t .answer); numbers = recordOf m (t .answer); texts = t .texts }
 
+-- D21: each call of the interface beside the library's
 pub record SameAnswers : Type 0 where
   -- `orizhgum_frame`, `frame::read`
   pub frame : (s : List ℕ) (r : FrameAnswer) (a : Framed) → FrameFromC s r → FrameRead s a → r ≡ frameAnswer (frame.paper a)
@@ -182,12 +184,13 @@ pub record GivesBack (x : Record) (ts : List ℕ) (n : ℕ) (s : List ℕ) (f : 
       (m : Message) (k : ℕ) (y : Record) (us : List ℕ) → typeNumber m ≡ f .kind → RecordFromC m (part 8 (8 + f .len) s) k y us →
       (k ≡ plain) × (y ≡ x) × (us ≡ filled ts)
 
+-- D22: what a write call wrote
 abbrev pub StructsReadBack : Type 0
 StructsReadBack =
     (x : Record) (ts gs out : List ℕ) (r : WriteAnswer) (after : List ℕ) (f : FrameAnswer) → Held (paperRecord x) →
     WriteFromC x ts gs out r after → r .answer ≡ plain → FrameFromC after f → GivesBack x ts (r .written) after f
 
--- the struct and the texts that a record call gave, and the groups of its body, are written as the same bytes
+-- D23: the struct and the texts that a record call gave, and the groups of its body, are written as the same bytes
 abbrev pub StructsSameBytes : Type 0
 StructsSameBytes =
     (s out after : List ℕ) (f : FrameAnswer) (m : Message) (y : Record) (us : List ℕ) (r : WriteAnswer) → Bytes s → FrameFromC s f →
@@ -215,7 +218,7 @@ pub data Numbering : List Turn → List Numbered → Type 0 where
   one : {x : Turn} {y : Numbered} {l : List Turn} {m : List Numbered} → x .arrival ≡ y .arrival → saidNumber (x .said) ≡ y .number → Numbering l m →
       Numbering (x ∷ l) (y ∷ m)
 
--- a playing of demand 3, and so all that demand 3 says of it
+-- D31, D32, D33, D34: a playing of demand 3, and so all that demand 3 says of it
 pub record Playing (t : Tracker) (l : List Numbered) (u : Tracker) : Type 0 where
   pub steps : List Turn
   pub plays : Play t steps u
@@ -224,6 +227,6 @@ pub record Playing (t : Tracker) (l : List Numbered) (u : Tracker) : Type 0 wher
 abbrev pub PlaysAsPlayed : Type 0
 PlaysAsPlayed = (t u : Tracker) (l : List Numbered) → PlayFromC t l u → Playing t l u
 
--- a set-up that is answered plainly gives a fresh record
+-- T1: a set-up that is answered plainly gives a fresh record
 abbrev pub StartsFresh : Type 0
 StartsFresh = (numbers : List ℕ) (r : StartAnswer) → SetUpFromC numbers r → r .answer ≡ plain → Fresh numbers (r .tracker)

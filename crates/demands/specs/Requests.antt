@@ -21,21 +21,21 @@ use Rattle.tracker.specs.declared.Requested.{Requested}
 use Rattle.demands.specs.Calls.{Request}
 use Rattle.demands.specs.Play.{Fresh, Turn, Play, historyOf, Has}
 
--- bytes that begin with a frame of 390094, L 44, 56 bytes, which reads as resend type 1, channel k, the numbers of r, status 0 and spaces
+-- Q2: bytes that begin with a frame of 390094, L 44, 56 bytes, which reads as resend type 1, channel k, the numbers of r, status 0 and spaces
 pub record Asks (k : ℕ) (r : Run) (s : List ℕ) : Type 0 where
   pub frame : framing headerWidth bodyLimit s ≡ accepted (record { kind = 390094; len = 44; total = 56 })
   pub fields :
       frameReading s ≡
       told (accepted (known resend (pos 1 ∷ pos k ∷ pos (r .first) ∷ pos (r .last) ∷ pos 0 ∷ []))) (replicate 24 space)
 
--- the channel has a first run, n bytes are written, and they ask for that run, or its first 200 numbers
+-- Q1: the channel has a first run, n bytes are written, and they ask for that run, or its first 200 numbers
 pub record Requests (t : Tracker) (k n : ℕ) (s : List ℕ) : Type 0 where
   pub run : Run
   pub first : firstRun t k ≡ accepted (lost run)
   pub bytes : n ≡ 56
   pub asks : Asks k (asked run) s
 
--- whatever stood in the output before, for every channel number of two bytes
+-- D41: whatever stood in the output before, for every channel number of two bytes
 abbrev pub RequestReads : Type 0
 RequestReads =
     (t : Tracker) (k : ℕ) (out after : List ℕ) (a : Requested) (n : ℕ) → k < 256 ^ 2 → Request t k out a after →
@@ -58,13 +58,13 @@ pub record AsksForMissing (k : ℕ) (l : List Turn) (s : List ℕ) : Type 0 wher
   pub few : run .last < run .first + batch
   pub whole : Misses k l (run .last + 1) → run .last + 1 ≡ run .first + batch
 
--- whatever was played into a fresh record, a request that is answered written asks for missing numbers
+-- D41: whatever was played into a fresh record, a request that is answered written asks for missing numbers
 abbrev pub RequestAsksForMissing : Type 0
 RequestAsksForMissing =
     (numbers : List ℕ) (t u : Tracker) (l : List Turn) → Fresh numbers t → Play t l u → (k : ℕ) → Has t k → k < 256 ^ 2 →
     (out after : List ℕ) (a : Requested) (n : ℕ) → Request u k out a after → paper a ≡ accepted (written n) → AsksForMissing k l after
 
--- and one that is answered "nothing missing" has none to ask for
+-- D41: and one that is answered "nothing missing" has none to ask for
 abbrev pub NothingIsMissing : Type 0
 NothingIsMissing =
     (numbers : List ℕ) (t u : Tracker) (l : List Turn) → Fresh numbers t → Play t l u → (k : ℕ) → Has t k →
