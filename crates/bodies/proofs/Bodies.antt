@@ -13,10 +13,10 @@ use lib.Seq.{take-all, drop-at}
 use Rattle.wire.specs.Answer.{accepted, guard}
 use Rattle.wire.specs.Bytes.{Bytes}
 use Rattle.layout.specs.Layout.{Message, heartbeat, channelHeartbeat, resend, statistics, securityStatus, snapshot, index, volumeIndex, order, trade, fields, size, values, texts}
-use Rattle.layout.specs.Group.{place, fit, groupRanges, group, start, count, whole, inRange, judged}
+use Rattle.layout.specs.Group.{place, fit, groupRanges, group, start, count, whole, inRange, judged, even}
 use Rattle.layout.proofs.Walk.{and-both, good}
 use Rattle.record.specs.Record.{groupsAs}
-use Rattle.bodies.specs.Body.{Numbers, encode, body, bodyLength, textSize, stated, even, exact, numbersIn, allIn}
+use Rattle.bodies.specs.Body.{Numbers, encode, body, bodyLength, textSize, stated, exact, numbersIn, allIn}
 use Rattle.bodies.proofs.Round.{round, length-encode, again}
 use Rattle.bodies.proofs.Numbers.{count-back, numbers-read, texts-read}
 use Rattle.bodies.proofs.Shift.{Counts, fit-shift, place-shift, groupRanges-shift}

@@ -10,17 +10,17 @@ use lib.ListN.{length}
 use Rattle.wire.specs.Answer.{Answer, accepted, refused, guard}
 use Rattle.wire.specs.Refusal.{notItsLayout}
 use Rattle.layout.specs.Layout.{Message, fields}
-use Rattle.layout.specs.Group.{place, fit, groupRanges, group, verdict, also, judgedAll, noGroup}
-use Rattle.bodies.specs.Body.{textSize, stated, even, numbersIn}
+use Rattle.layout.specs.Group.{place, fit, groupRanges, group, verdict, also, judgedAll, noGroup, even}
+use Rattle.bodies.specs.Body.{textSize, stated, numbersIn}
 use Rattle.bodies.specs.Parts.{judgedParts}
 
 -- a type without groups
 pub none-even : (gs : List ℕ) → length gs ≡ 0 → accepted tt ≡ judgedAll noGroup gs 0
-unfolding judgedAll fit place groupRanges guard
+unfolding judgedAll even fit place groupRanges guard
 none-even gs h = rw h
 
 pub none-odd : (gs : List ℕ) → (length gs ≡ 0 → ⊥) → refused notItsLayout [] ≡ judgedAll noGroup gs 0
-unfolding judgedAll fit place groupRanges guard
+unfolding judgedAll even fit place groupRanges guard
 none-odd gs h = rw (ne-eqb 0 (length gs) (λ e. h (sym e)))
 
 -- a type without numbers

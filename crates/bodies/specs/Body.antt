@@ -1,4 +1,4 @@
--- Document 01, "Writer": "Fixed fields come as numbers, texts and groups as lent bytes in wire layout".
+-- The body that the writer makes of numbers, texts and groups, and what it takes for them.
 -- Assumes nothing.
 use Prim.Native.Nat.{ℕ, _+_, _^_, _<_}
 use mathlib.Core.Bool.{Bool, true, _&&_}
@@ -10,17 +10,17 @@ use mir.Syntax.{w64}
 use mir.Val.{SFits, ofZ}
 use Rattle.wire.specs.Bytes.{digits}
 use Rattle.layout.specs.Kind.{Kind, text, Text, Form, unsigned, signed, written, form, bytes, characters, ranged}
-use Rattle.layout.specs.Layout.{Message, fields, Group, Behind, nothing, groups, entries, behind, size, textsBehind}
-use Rattle.layout.specs.Group.{fit, place, groupRanges, group}
+use Rattle.layout.specs.Layout.{Message, fields, Behind, nothing, groups, entries, behind, size, textsBehind}
+use Rattle.layout.specs.Group.{even, groupRanges, group}
 
 -- ---- numbers
 
--- a number that a field of a form can hold
+-- L1: a number that a field of a form can hold
 pub data Holds : Form → ℤ → Type 0 where
   plain : {w n : ℕ} → n < 256 ^ w → Holds (unsigned w) (pos n)
   sign : {z : ℤ} → SFits w64 z → Holds signed z
 
--- a number for each fixed field of a layout, in its order; a text has none
+-- W1: a number for each fixed field of a layout, in its order; a text has none
 pub data Numbers : List Kind → List ℤ → Type 0 where
   none : Numbers [] []
   number : {k : Kind} {ks : List Kind} {z : ℤ} {zs : List ℤ} → Holds (form k) z → Numbers ks zs → Numbers (k ∷ ks) (z ∷ zs)
@@ -47,7 +47,7 @@ numbersBehind (unsigned w) zs = others zs
 numbersBehind signed zs = others zs
 numbersBehind (written t) zs = zs
 
--- a field: the bytes of the next number, or the next of the texts
+-- W1: a field: the bytes of the next number, or the next of the texts
 abbrev pub fieldBytes : Form → List ℤ → List ℕ → List ℕ
 fieldBytes (unsigned w) zs ts = digits w (bits (first zs))
 fieldBytes signed zs ts = digits (bytes signed) (bits (first zs))
@@ -58,7 +58,7 @@ unfoldable pub encode : List Kind → List ℤ → List ℕ → List ℕ
 encode [] zs ts = []
 encode (k ∷ ks) zs ts = fieldBytes (form k) zs ts ++ encode ks (numbersBehind (form k) zs) (textsBehind (form k) ts)
 
--- the body of a listed type: its fields, then its groups; "no tail is added"
+-- W3: the body of a listed type: its fields, then its groups, and no tail
 unfoldable pub body : Message → List ℤ → List ℕ → List ℕ → List ℕ
 body m zs ts gs = encode (fields m) zs ts ++ gs
 
@@ -66,47 +66,46 @@ body m zs ts gs = encode (fields m) zs ts ++ gs
 abbrev pub bodyLength : Message → List ℕ → ℕ
 bodyLength m gs = size (fields m) + length gs
 
--- ---- "lent texts or groups that aren't exactly the stated fields"
+-- ---- texts and groups of the right length
 
--- how many bytes the texts of a layout take
+-- how many bytes of texts a field takes
 abbrev pub textWidth : Form → ℕ
 textWidth (unsigned w) = 0
 textWidth signed = 0
 textWidth (written t) = characters t
 
+-- W4: how many bytes all texts of a layout take
 unfoldable pub textSize : List Kind → ℕ
 textSize [] = 0
 textSize (k ∷ ks) = textWidth (form k) + textSize ks
 
+-- the last of some numbers
 abbrev pub last : List ℤ → ℤ
 last [] = pos 0
 last (z ∷ []) = z
 last (z ∷ y ∷ zs) = last (y ∷ zs)
 
--- "count, then per group": the count is the last of the numbers
+-- W4: how many groups the record's count says, the last of its numbers
 abbrev pub countIn : Behind → List ℤ → ℕ
 countIn nothing zs = 0
 countIn (groups g) zs = bits (last zs)
 countIn (entries e) zs = bits (last zs)
 
+-- W4: how many groups a record of a type states
 abbrev pub stated : Message → List ℤ → ℕ
 stated m zs = countIn (behind m) zs
 
--- whether groups come out even with the count, shown counts included
-unfoldable pub even : Group → List ℕ → ℕ → Bool
-even g gs n = fit g gs 0 n && eqb (place g gs 0 n) (length gs)
-
--- a type without texts or groups takes none
+-- W4: texts and groups are just the type's; a type without them takes none
 abbrev pub exact : Message → List ℤ → List ℕ → List ℕ → Bool
 exact m zs ts gs = eqb (length ts) (textSize (fields m)) && even (group m) gs (stated m zs)
 
--- ---- "a field out of range"
+-- ---- numbers in range
 
--- whether the numbers of the fixed fields are in range
+-- W5: whether the numbers of the fixed fields are in range
 unfoldable pub numbersIn : List Kind → List ℤ → Bool
 numbersIn [] zs = true
 numbersIn (k ∷ ks) zs = ranged k (bits (first zs)) && numbersIn ks (numbersBehind (form k) zs)
 
--- with those of groups and shown quantities
+-- W5: with those of groups and shown quantities
 abbrev pub allIn : Message → List ℤ → List ℕ → Bool
 allIn m zs gs = numbersIn (fields m) zs && groupRanges (group m) gs 0 (stated m zs)

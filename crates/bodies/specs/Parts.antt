@@ -19,14 +19,15 @@ abbrev pub numbersRead : Reading → List ℤ
 numbersRead (known m zs) = zs
 numbersRead (unknown type) = []
 
+-- the same of the code's record
 abbrev pub numbersOf : Record → List ℤ
 numbersOf r = numbersRead (paperRecord r)
 
--- "lent texts or groups that aren't exactly the stated fields", then "a field out of range"
+-- R4, R5, J3: 4 for texts or groups that are not just the type's, then 5
 unfoldable pub judgedParts : Message → List ℤ → List ℕ → List ℕ → Answer Unit
 judgedParts m zs ts gs = verdict (exact m zs ts gs) (allIn m zs gs)
 
--- what an output holds for the fields alone: the fields, where texts and output have just their lengths; else it stays as it stood
+-- W1: what an output holds for the fields alone: the fields, where texts and output have just their lengths; else it stays as it stood
 unfoldable pub stored : Message → List ℤ → List ℕ → List ℕ → List ℕ
 stored m zs ts out =
     cond (eqb (length ts) (textSize (fields m))) (cond (eqb (length out) (size (fields m))) (encode (fields m) zs ts) out) out

@@ -4,11 +4,11 @@ ghost use Rattle.layout.specs.Layout as of;
 ghost use Rattle.layout.specs.Paper.{paper};
 ghost use Rattle.record.specs.declared.Record.the-variants as variant;
 ghost use Rattle.bodies.specs.Parts.{numbersOf, judgedParts};
-use crate::Size;
 use crate::common::in_range;
 use layout::Groups;
 use layout::Refusal;
 use layout::Verdict;
+use layout::index;
 use layout::judge_all;
 use record::Index;
 
@@ -16,7 +16,7 @@ use record::Index;
 pub fn index_verdict(r: Index, texts: &[u8], groups: &[u8]) -> Verdict
     ensures { λ v. ⌜ paper v ≡ judgedParts of.index (numbersOf (variant.Index r)) (now (texts .entry)) (now (groups .entry)) ⌝ }
 {
-    if texts.len() != Size::COMMON_TEXTS {
+    if texts.len() != index::TEXTS_SIZE {
         return Verdict::Refused(Refusal::NotItsLayout);
     }
     judge_all(Groups::IndexEntries, groups, r.count).also(in_range(r.common))

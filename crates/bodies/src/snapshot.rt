@@ -4,19 +4,19 @@ ghost use Rattle.layout.specs.Layout as of;
 ghost use Rattle.layout.specs.Paper.{paper};
 ghost use Rattle.record.specs.declared.Record.the-variants as variant;
 ghost use Rattle.bodies.specs.Parts.{numbersOf, judgedParts};
-use crate::Size;
 use crate::common::in_range;
 use layout::Groups;
 use layout::Refusal;
 use layout::Verdict;
 use layout::judge_all;
+use layout::snapshot;
 use record::Snapshot;
 
 // 4 for texts or groups that aren't exactly its own, then 5 for a number out of range.
 pub fn snapshot_verdict(r: Snapshot, texts: &[u8], groups: &[u8]) -> Verdict
     ensures { λ v. ⌜ paper v ≡ judgedParts of.snapshot (numbersOf (variant.Snapshot r)) (now (texts .entry)) (now (groups .entry)) ⌝ }
 {
-    if texts.len() != Size::COMMON_TEXTS {
+    if texts.len() != snapshot::TEXTS_SIZE {
         return Verdict::Refused(Refusal::NotItsLayout);
     }
     judge_all(Groups::SnapshotEntries, groups, r.count).also(in_range(r.common))

@@ -1,4 +1,4 @@
-// Cases of document 01 that are run: what the writer refuses, with the output that it leaves; a full gap table; requests.
+// Cases that are run: what the writer refuses, with the output that it leaves; a full gap table; requests.
 mod asking;
 mod refused;
 mod said;

@@ -1,5 +1,5 @@
-// "Ticks 2, 4, up to 64: 32 runs. Then 66 is 9, last number 66 is 9, 65 is new, 1 is late." And a freed place is used again:
-// after 64 and 1, 66 is new.
+// A full gap table, by ticks 2, 4 and so on to 64: what it refuses and what it takes. And a freed place is used again: after 64
+// and 1, 66 is new.
 use crate::said;
 use crate::said::Said;
 use tracker::Reply;

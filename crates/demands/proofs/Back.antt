@@ -18,7 +18,7 @@ use Rattle.layout.specs.Layout.{Message, heartbeat, channelHeartbeat, resend, s
 use Rattle.layout.specs.Group.{place, group, start, count, judged}
 use Rattle.record.specs.Record.{known, readAs, reading, frameReading, groupsAs, groupsPart}
 use Rattle.record.proofs.Choice.{named-as, named-back}
-use Rattle.bodies.specs.Body.{Numbers, body, bodyLength}
+use Rattle.bodies.specs.Body.{Numbers, body, bodyLength, textSize}
 use Rattle.writer.specs.Write.{frameOf, frameLength, judgedAs}
 use Rattle.bodies.proofs.Bodies.{same, exactly, reads, again-from}
 use Rattle.writer.proofs.Frames.{said, framed, framed-again}
@@ -78,6 +78,9 @@ module _ (s : List ℕ) (f : Frame) (m : Message) (bytes : Bytes s) (e : framing
       (c : named (f .kind) ≡ listed m) (j : judged m lent ≡ accepted tt)
       (t : place (group m) lent (start m) (count m lent) ≡ length lent) (out : List ℕ) (room : f .total ≤ length out)
     where
+      pub length-texts : length (texts (fields m) lent 0) ≡ textSize (fields m)
+      length-texts = exactly m (values (fields m) lent 0) (texts (fields m) lent 0) (groupsAs m lent) (again-from m lent bytes-lent j t .exacts) .texts
+
       pub judged-again : judgedAs m (values (fields m) lent 0) (texts (fields m) lent 0) (groupsAs m lent) (length out) ≡ accepted (f .total)
       unfolding judgedAs guard
       judged-again =

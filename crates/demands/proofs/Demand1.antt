@@ -41,11 +41,13 @@ use Rattle.tracker.specs.FirstRun.{Lost, lost, nothingMissing, foremost, firstR
 use Rattle.tracker.specs.Request as request
 use Rattle.tracker.specs.Request.{requestLength, fitting, answerOf}
 use Rattle.tracker.proofs.Fitting.{request-length}
-use Rattle.demands.specs.Play.{recordOf}
+use Rattle.demands.specs.Play.{channelOf}
 use Rattle.demands.proofs.Calls.{frame-read-as, read-frame-as, read-as, judge-as, group-of-as, entry-of-as, quantity-of-as, step-as, write-as, set-up-as, arrives-as, request-as}
 use Rattle.demands.specs.Rules.{_if_, Judged, success, later, OrNone, Kept}
 use Rattle.demands.specs.Conditions.{L, behindOf, fieldsEnd, groupsIn, entriesIn, shownIn, leftIn, groupCount, entryCount, shownCount, entriesLeft, EntryLacks, EntryStrays, Falls, Keeps, NotIn, Low}
-use Rattle.demands.specs.Demand1.{frameRules, bodyRules, readerRules, stepRules, writerRules, setUpRules, arrivalRules, requestRules, Demand1}
+use Rattle.demands.specs.Demand1.{frameRules, bodyRules, readerRules, stepRules, writerRules, setUpRules, arrivalRules, requestRules}
+use Rattle.demands.specs.Receiver.{Demand1}
+use Rattle.demands.proofs.Checked.{checked}
 use Rattle.demands.proofs.Rules.{above, answered, tested, Alike, both-accepted, both-refused, alike, in-turn, by-reading, by-body, by-judging}
 use Rattle.demands.proofs.Keeps.{keeps-yes, keeps-sound}
 use Rattle.demands.proofs.Out.{only-out, only-in}
@@ -53,7 +55,7 @@ use Rattle.demands.proofs.Played.{place-number, place-found}
 
 -- ---- the reader
 
-by-frame : (s : List ℕ) → Judged (frameRules s) (framing headerWidth bodyLimit s)
+pub by-frame : (s : List ℕ) → Judged (frameRules s) (framing headerWidth bodyLimit s)
 by-frame s = by-reading s _ (frame-laws.view headerWidth bodyLimit s)
 
 -- what follows a body that was judged
@@ -131,7 +133,7 @@ group-none (listed m) b i x e =
     rw a at (group-in (behind m) (start m) b i)
 group-none unlisted b i x e = (λ f. omega arith, λ h. cc)
 
-group-asked : (type : ℕ) (b : List ℕ) (i : ℕ) → OrNone (bodyRules type b) noSuchEntry (groupCount type b ≤ i) (groupAsked type b i .answer)
+pub group-asked : (type : ℕ) (b : List ℕ) (i : ℕ) → OrNone (bodyRules type b) noSuchEntry (groupCount type b ≤ i) (groupAsked type b i .answer)
 unfolding groupAsked
 group-asked type b i =
     record {
@@ -149,7 +151,7 @@ entry-of : (l : Listed) (b : List ℕ) (i : ℕ) → (entryOf l b i ≡ noSuchEn
 entry-of (listed m) b i = entry-in (behind m) (start m) b i
 entry-of unlisted b i = none-there i
 
-entry-asked : (type : ℕ) (b : List ℕ) (i : ℕ) → OrNone (bodyRules type b) noSuchEntry (entryCount type b ≤ i) (entryAsked type b i)
+pub entry-asked : (type : ℕ) (b : List ℕ) (i : ℕ) → OrNone (bodyRules type b) noSuchEntry (entryCount type b ≤ i) (entryAsked type b i)
 unfolding entryAsked
 entry-asked type b i =
     record {
@@ -177,7 +179,7 @@ quantity-of :
 quantity-of (listed m) b i j = quantity-in (behind m) (start m) b i j
 quantity-of unlisted b i j = quantity-in nothing 0 b i j
 
-quantity-asked :
+pub quantity-asked :
     (type : ℕ) (b : List ℕ) (i j : ℕ) →
     OrNone (bodyRules type b) noSuchEntry ((entryCount type b ≤ i) ⊎ (shownCount type b i ≤ j)) (quantityAsked type b i j)
 unfolding quantityAsked
@@ -234,7 +236,7 @@ unfolding stepOf
 step-of (listed m) b c = refl
 step-of unlisted b c = refl
 
-stepped : (type : ℕ) (b : List ℕ) (c : At) → OrNone (stepRules type b c) noSuchEntry (entriesLeft type c ≡ 0) (stepOf (named type) b c)
+pub stepped : (type : ℕ) (b : List ℕ) (c : At) → OrNone (stepRules type b c) noSuchEntry (entriesLeft type c ≡ 0) (stepOf (named type) b c)
 stepped type b c =
     record {
       judged = answered (step-of (named type) b c) (step-judged (behindOf (named type)) b c);
@@ -247,7 +249,7 @@ written-same :
     (x : record-of.Reading) (ts gs out : List ℕ) (a : Answer ℕ) (n : ℕ) (vs : List ℕ) → a ≡ refused n vs → outputOf a x ts gs out ≡ out
 written-same x ts gs out a n vs e = rw e
 
-written : (x : record-of.Reading) (ts gs out : List ℕ) → Kept (writerRules x ts gs (length out)) (answering x ts gs out) out (leaving x ts gs out)
+pub written : (x : record-of.Reading) (ts gs out : List ℕ) → Kept (writerRules x ts gs (length out)) (answering x ts gs out) out (leaving x ts gs out)
 unfolding answering leaving
 written x ts gs out =
     record {
@@ -308,7 +310,7 @@ tests-judged numbers =
     (λ f.
     tested (not (ascends 0 numbers)) (λ g. falls-by numbers (not-true _ g)) (λ g. rises-by numbers (not-false _ g)) (λ g. success)))
 
-started : (numbers : List ℕ) → Kept (setUpRules numbers) (setUp numbers .said) (blankOf []) (setUp numbers .tracker)
+pub started : (numbers : List ℕ) → Kept (setUpRules numbers) (setUp numbers .said) (blankOf []) (setUp numbers .tracker)
 unfolding setUp
 started numbers =
     record {
@@ -350,12 +352,12 @@ settled-same t i (refused m v) n vs e = refl
 abbrev steps : Tracker → ℕ → Event → Answer channel-of.Step
 steps t k e =
     guard (not (wellFormed t)) (refused malformed [])
-    (guard (not (ltb (place-of t k) (t .count))) (refused noSuchChannel []) (channel-of.judged (recordOf t k) e))
+    (guard (not (ltb (place-of t k) (t .count))) (refused noSuchChannel []) (channel-of.judged (channelOf t k) e))
 
 steps-judged : (t : Tracker) (k : ℕ) (e : Event) → Judged (arrivalRules t k e) (steps t k e)
 unfolding channel-of.judged
 steps-judged t k e =
-    let runs = taken (recordOf t k) e .next .runs in
+    let runs = taken (channelOf t k) e .next .runs in
     tested (not (wellFormed t)) (λ a. breaks t (not-true _ a)) (λ a x. x (keeps-yes t (not-false _ a)))
     (λ a.
     tested (not (ltb (place-of t k) (t .count))) (λ b. not-in t k (not-true _ b)) (λ b. is-in t k (not-false _ b))
@@ -363,7 +365,7 @@ steps-judged t k e =
     tested (tooLow e) (low-yes e) (low-no e)
     (λ c. tested (ltb runLimit (length runs)) (ltb-true runLimit (length runs)) (λ d. above (ltb-false runLimit (length runs) d)) (λ d. success))))
 
-arrives : (t : Tracker) (k : ℕ) (e : Event) → Kept (arrivalRules t k e) (arrived t (on k e) .said) t (arrived t (on k e) .next)
+pub arrives : (t : Tracker) (k : ℕ) (e : Event) → Kept (arrivalRules t k e) (arrived t (on k e) .said) t (arrived t (on k e) .next)
 unfolding arrived
 arrives t k e =
     record {
@@ -396,7 +398,7 @@ fitting-judged (r ∷ l) room =
 module _ (t : Tracker) (k : ℕ) where
   -- the first run of the channel, behind 10 and 7
   abbrev runs : List Run
-  runs = recordOf t k .runs
+  runs = channelOf t k .runs
 
   abbrev seated : Answer Lost
   seated = guard (not (ltb (place-of t k) (t .count))) (refused noSuchChannel []) (accepted (foremost runs))
@@ -433,10 +435,10 @@ module _ (x : request.Said) (room : ℕ) where
 
   none-first :
       (t : Tracker) (k : ℕ) (y : Answer Lost) → firstRun t k ≡ y → answerOf (andThen y (fitting room)) ≡ accepted x →
-      (x ≡ request.nothing) ↔ (recordOf t k .runs ≡ [])
+      (x ≡ request.nothing) ↔ (channelOf t k .runs ≡ [])
   unfolding andThen
   none-first t k (accepted v) f e =
-      none-by (recordOf t k .runs) (ltb room requestLength) refl (rw (← first-value t k v f) at e)
+      none-by (channelOf t k .runs) (ltb room requestLength) refl (rw (← first-value t k v f) at e)
   none-first t k (refused n vs) f e = let z : _≡_ {A = ℕ} 0 1 = cc in absurd (omega arith)
 
 module _ (k : ℕ) (out : List ℕ) where
@@ -454,15 +456,15 @@ module _ (t : Tracker) (k : ℕ) (out : List ℕ) where
   unfolding request.answering
   asked-by = alike (answer-alike (request.judging t k (length out))) (asks-judged t k (length out))
 
-  asked : Kept (requestRules t k (length out)) (request.answering t k out) out (request.leaving t k out)
+  pub asked : Kept (requestRules t k (length out)) (request.answering t k out) out (request.leaving t k out)
   unfolding request.answering request.leaving
   asked = record { judged = asked-by; same = λ n vs f. unasked k out (request.judging t k (length out)) n vs f }
 
-  asked-or-none : OrNone (requestRules t k (length out)) request.nothing (recordOf t k .runs ≡ []) (request.answering t k out)
+  asked-or-none : OrNone (requestRules t k (length out)) request.nothing (channelOf t k .runs ≡ []) (request.answering t k out)
   unfolding request.answering request.judging
   asked-or-none = record { judged = asked-by; none-when = λ x f. none-first x (length out) t k (firstRun t k) refl f }
 
-  nothing-written : request.answering t k out ≡ accepted request.nothing → request.leaving t k out ≡ out
+  pub nothing-written : request.answering t k out ≡ accepted request.nothing → request.leaving t k out ≡ out
   unfolding request.answering request.leaving
   nothing-written f = unwritten k out (request.judging t k (length out)) f
 
@@ -475,6 +477,7 @@ every says e h = subst says (sym e) h
 pub demand1 : Demand1
 demand1 =
     record {
+      checked = checked;
       frame-read = λ s r c. rw (frame-read-as c) (by-frame s);
       read-frame = λ s r c. every (λ (a : Told record-of.Reading). Judged (readerRules s) (a .answer)) (read-frame-as c) (by-bytes s);
       read = λ type b r c. every (λ (a : Told record-of.Reading). Judged (bodyRules type b) (a .answer)) (read-as c) (by-type type b);

@@ -31,7 +31,7 @@ use Rattle.tracker.proofs.Signed.{natural-most}
 use Rattle.tracker.proofs.Seated.{arrived-7, arrived-at}
 use Rattle.tracker.proofs.Holder.{holder, at, Good, AllGood, holder-put, holder-channel, holder-well, Listed}
 use Rattle.demands.proofs.Calls.{arrives-as}
-use Rattle.demands.specs.Play.{Callable, Told, told, Play, done, step, arrivals}
+use Rattle.demands.specs.Play.{Callable, Turn, turn, Play, done, step, arrivals}
 
 -- ---- one channel's record, with the history that it is exact for
 
@@ -176,12 +176,12 @@ eventsAt ns i [] = []
 eventsAt ns i (a ∷ l) = cond (eqb (seat ns (a .channel)) i) (a .event ∷ eventsAt ns i l) (eventsAt ns i l)
 
 -- what they were answered
-abbrev pub answersAt : List ℕ → ℕ → List Told → List (Answer Said)
+abbrev pub answersAt : List ℕ → ℕ → List Turn → List (Answer Said)
 answersAt ns i [] = []
 answersAt ns i (x ∷ l) = cond (eqb (seat ns (x .arrival .channel)) i) (x .said ∷ answersAt ns i l) (answersAt ns i l)
 
 -- the record at the end, from the records cs at the start
-pub record Ends (ns : List ℕ) (cs : List Channel) (l : List Told) (u : Tracker) : Type 0 where
+pub record Ends (ns : List ℕ) (cs : List Channel) (l : List Turn) (u : Tracker) : Type 0 where
   pub rows : List Channel
   pub last : u ≡ holder ns rows
   pub size : length rows ≡ length ns
@@ -215,7 +215,7 @@ module _ (cs : List Channel) (i : ℕ) (e : Event) (h : i < length cs) where
       go true p = rw (sym (eqb-true i j p), getD-set-same cs i (after (at cs i) e) (fresh 1) h)
       go false p = rw (getD-set-other cs i j (after (at cs i) e) (fresh 1) (λ d. eqb-false i j p (sym d)))
 
-pub ends : (ns : List ℕ) → Listed ns → {t u : Tracker} {l : List Told} → Play t l u → (cs : List Channel) → t ≡ holder ns cs → length cs ≡ length ns → AllKnown cs → Ends ns cs l u
+pub ends : (ns : List ℕ) → Listed ns → {t u : Tracker} {l : List Turn} → Play t l u → (cs : List Channel) → t ≡ holder ns cs → length cs ≡ length ns → AllKnown cs → Ends ns cs l u
 ends ns o done cs e n k = record { rows = cs; last = e; size = n; known = k; mine = λ i h. refl; said = λ i h. refl }
 ends ns o (step {t} {u} {l} a r f p q) cs e n k = go (lt-or-le (seat ns (a .channel)) (length ns)) (λ ds d m y. ends ns o q ds d m y)
   where
@@ -225,7 +225,7 @@ ends ns o (step {t} {u} {l} a r f p q) cs e n k = go (lt-or-le (seat ns (a .chan
     c : Channel
     c = at cs (seat ns (a .channel))
 
-    go : (i < length ns) ⊎ (length ns ≤ i) → ((ds : List Channel) → r .next ≡ holder ns ds → length ds ≡ length ns → AllKnown ds → Ends ns ds l u) → Ends ns cs (told a (saidOf (r .verdict)) ∷ l) u
+    go : (i < length ns) ⊎ (length ns ≤ i) → ((ds : List Channel) → r .next ≡ holder ns ds → length ds ≡ length ns → AllKnown ds → Ends ns ds l u) → Ends ns cs (turn a (saidOf (r .verdict)) ∷ l) u
     go (inl h) ih =
         let w = arrives-as p ∙ ap (λ (x : Tracker). arrived x a) e ∙ arrives ns o cs n k a f h in
         let g : i < length cs = omega arith in

@@ -33,9 +33,9 @@ use Rattle.tracker.specs.Request.{batch, asked, spaces, numbersFor, requestFram
 use Rattle.tracker.specs.declared.Requested.{Requested}
 use Rattle.tracker.proofs.Batch.{asked-all, asked-batch, asked-within}
 use Rattle.tracker.proofs.Fitting.{request-length, judged-request, answers-by, leaves-by}
-use Rattle.demands.specs.Play.{Fresh, Told, Play, historyOf, Holds, recordOf}
+use Rattle.demands.specs.Play.{Fresh, Turn, Play, historyOf, Has, channelOf}
 use Rattle.demands.proofs.Calls.{request-as}
-use Rattle.demands.specs.Requests.{Asks, Requests, RequestReads, Lacks, AsksForMissing, RequestAsksForMissing, NothingIsMissing}
+use Rattle.demands.specs.Requests.{Asks, Requests, RequestReads, Misses, AsksForMissing, RequestAsksForMissing, NothingIsMissing}
 use Rattle.demands.proofs.Back.{back-known}
 use Rattle.demands.proofs.Demand3.{view}
 
@@ -111,21 +111,21 @@ behind : (lo h : ℕ) (r : Run) (l : List Run) → Canon lo h (r ∷ l) → In (
 behind lo h r l c (inl w) = omega (arith, w .1)
 behind lo h r l c (inr w) = omega (arith, low (r .last + 2) h l (r .last + 1) (c .3) w)
 
-module _ (u : Tracker) (l : List Told) (k : ℕ) (x : Exact 1 (recordOf u k) (historyOf k l)) (r : Run) (f : Front (recordOf u k .runs) r) where
-  order : Canon 1 (recordOf u k .highest) (r ∷ f .rest)
-  order = subst (Canon 1 (recordOf u k .highest)) (f .same) (x .order)
+module _ (u : Tracker) (l : List Turn) (k : ℕ) (x : Exact 1 (channelOf u k) (historyOf k l)) (r : Run) (f : Front (channelOf u k .runs) r) where
+  order : Canon 1 (channelOf u k .highest) (r ∷ f .rest)
+  order = subst (Canon 1 (channelOf u k .highest)) (f .same) (x .order)
 
-  within : (n : ℕ) → Lacks k l n → In (r ∷ f .rest) n
+  within : (n : ℕ) → Misses k l n → In (r ∷ f .rest) n
   within n m = subst (λ (y : List Run). In y n) (f .same) (x .back n m)
 
-  lacks : (n : ℕ) → r .first ≤ n → n ≤ r .last → Lacks k l n
+  lacks : (n : ℕ) → r .first ≤ n → n ≤ r .last → Misses k l n
   lacks n a b = x .out n (subst (λ (y : List Run). In y n) (sym (f .same)) (inl (a, b)))
 
-  lowest : (n : ℕ) → Lacks k l n → r .first ≤ n
-  lowest n m = low (r .first) (recordOf u k .highest) (r ∷ f .rest) n (omega arith, order .1, order .2, order .3) (within n m)
+  lowest : (n : ℕ) → Misses k l n → r .first ≤ n
+  lowest n m = low (r .first) (channelOf u k .highest) (r ∷ f .rest) n (omega arith, order .1, order .2, order .3) (within n m)
 
-  full : (r .last < r .first + batch) ⊎ (r .first + batch ≤ r .last) → Lacks k l (asked r .last + 1) → asked r .last + 1 ≡ asked r .first + batch
-  full (inl h) m = absurd (behind 1 (recordOf u k .highest) r (f .rest) order (within (r .last + 1) (rw (asked-all r h) at m)))
+  full : (r .last < r .first + batch) ⊎ (r .first + batch ≤ r .last) → Misses k l (asked r .last + 1) → asked r .last + 1 ≡ asked r .first + batch
+  full (inl h) m = absurd (behind 1 (channelOf u k .highest) r (f .rest) order (within (r .last + 1) (rw (asked-all r h) at m)))
   full (inr h) m = rw (asked-batch r h) (omega arith)
 
   asks-missing : (s : List ℕ) → Asks k (asked r) s → AsksForMissing k l s
@@ -151,7 +151,7 @@ module _ (u : Tracker) (l : List Told) (k : ℕ) (x : Exact 1 (recordOf u k) (hi
 pub request-asks-for-missing : RequestAsksForMissing
 request-asks-for-missing ns t u l f p k h c out after a n call e =
     let q = request-reads u k out after a n c call e in
-    let g = front (recordOf u k .runs) (q .run) (first-of u k (lost (q .run)) (q .first) .same) in
+    let g = front (channelOf u k .runs) (q .run) (first-of u k (lost (q .run)) (q .first) .same) in
     asks-missing u l k (view ns t u l f p k h .right) (q .run) g after (q .asks)
 
 -- "nothing missing" is answered where the channel has no run
@@ -172,4 +172,4 @@ empty (r ∷ l) e n i = let z : _≡_ {A = ℕ} 0 1 = cc in omega arith
 pub nothing-is-missing : NothingIsMissing
 nothing-is-missing ns t u l f p k h out after a call e n m =
     let q = none-first u k (length out) (firstRun u k) refl (sym (answers-by u k out refl) ∙ sym (request-as call .answers) ∙ e) in
-    empty (recordOf u k .runs) (first-of u k nothingMissing q .same) n (view ns t u l f p k h .right .back n m)
+    empty (channelOf u k .runs) (first-of u k nothingMissing q .same) n (view ns t u l f p k h .right .back n m)

@@ -18,12 +18,12 @@ use Rattle.frame.specs.declared.Frame.{Frame}
 use Rattle.frame.proofs.Framing.{Reading, no-header, too-long, cut, wrong-sum, whole}
 use Rattle.layout.specs.Layout.{Message, fields, Listed, listed, unlisted}
 use Rattle.layout.specs.Group as group
-use Rattle.layout.specs.Group.{place, fit, inRange, judged}
+use Rattle.layout.specs.Group.{place, fit, inRange, judged, even}
 use Rattle.layout.proofs.Walk.{and-both, place-beyond, needs-more, needs-no-more}
 use Rattle.record.specs.Asked.{judgedAs}
 use Rattle.record.specs.Record as record-of
 use Rattle.record.specs.Record.{known, unknown}
-use Rattle.bodies.specs.Body.{bodyLength, textSize, stated, even, exact, allIn}
+use Rattle.bodies.specs.Body.{bodyLength, textSize, stated, exact, allIn}
 use Rattle.writer.specs.Write as writer
 use Rattle.writer.specs.Write.{frameLength, judging}
 use Rattle.demands.specs.Rules.{Rule, _if_, Judged, success, here, later}
@@ -77,7 +77,7 @@ in-turn b (success {x}) r f = f x refl
 in-turn b (here {r = q} {rs} {vs} w) r f = answered (r (q .number) vs refl) (here w)
 in-turn b (later n j) r f = later n (in-turn b j r f)
 
-not-both : {A C : Type 0} {n : ℕ} {vs : List ℕ} → Accepted {A = A} (refused n vs) → C
+pub not-both : {A C : Type 0} {n : ℕ} {vs : List ℕ} → Accepted {A = A} (refused n vs) → C
 not-both = elim [ ]
 
 -- an answer that is judged is accepted exactly where no condition holds

@@ -1,30 +1,32 @@
--- Demand 2: "Reading and writing follow the exchange's Binary interface 1.02 as condensed in document 01. What is written reads back
--- as the same fields. A frame of a listed type that is read and written again has the same bytes where its body has no extra tail."
--- That a call follows document 01 is its promise, `paper r ≡ definition`. Here, of every answer that the contracts allow (specs/Calls):
--- what is accepted and what is written, and that nothing is lost on the way in either direction.
+-- Demand 2's statements, of every answer that the contracts allow (specs/Calls): what is accepted, what is written, and that nothing is
+-- lost on the way in either direction. That a call reads each field as the layouts say is its promise, `paper r ≡ definition`.
 -- Assumes nothing.
-use Prim.Native.Nat.{ℕ, _+_, _≤_}
+use Prim.Native.Nat.{ℕ, zero, suc, _+_, _*_, _≤_, _<_}
 use mathlib.Core.Path.{_≡_}
 use mathlib.Core.Logic.{_↔_}
 use mathlib.Core.List.{List, [], _∷_, _++_}
 use lib.IntN.{ℤ}
 use lib.ListN.{length, take, drop}
-use Rattle.wire.specs.Answer.{Answer, accepted, refused}
-use Rattle.wire.specs.Bytes.{Bytes}
+use Rattle.wire.specs.Answer.{Answer, accepted, refused, RefusedBy}
+use Rattle.wire.specs.Bytes.{Bytes, part}
+use Rattle.wire.specs.Refusal.{notItsLayout}
 use Rattle.frame.specs.Framing.{framing, bodyOf, headerWidth, bodyLimit}
 use Rattle.frame.specs.declared.Frame.{Frame}
-use Rattle.layout.specs.Layout.{Message, fields, typeNumber, listed, named}
-use Rattle.layout.specs.Group.{needs}
+use Rattle.layout.specs.Layout.{Message, heartbeat, channelHeartbeat, resend, statistics, securityStatus, snapshot, index, volumeIndex, order, trade, fields, typeNumber, snapshotEntries, listed, unlisted, named}
+use Rattle.layout.specs.Group.{shown, place, count, needs}
 use Rattle.record.specs.Asked.{told}
 use Rattle.record.specs.Record.{Reading, known, unknown, frameReading, groupsPart}
+use Rattle.record.specs.Paper as record-paper
 use Rattle.record.specs.Paper.{paperRecord, paperFrame}
+use Rattle.record.specs.declared.Reading as code-reading
 use Rattle.record.specs.declared.Record.{Record}
 use Rattle.record.specs.declared.framed.FrameReading.{FrameReading}
+use Rattle.entries.specs.Paper.{paperAskedEntry, paperQuantity}
 use Rattle.bodies.specs.Body.{Numbers, body, bodyLength}
 use Rattle.writer.specs.Write.{frameOf}
 use Rattle.writer.specs.Paper.{paper}
 use Rattle.writer.specs.declared.Written.{Written}
-use Rattle.demands.specs.Calls.{ReadFrame, Write}
+use Rattle.demands.specs.Calls.{ReadFrame, FrameBody, Read, GroupOf, EntryOf, QuantityOf, Write}
 use Rattle.demands.specs.Rules.{Rule}
 use Rattle.demands.specs.Demand1.{readerRules, writerRules}
 
@@ -38,29 +40,83 @@ abbrev pub NoneOf : List Rule → Type 0
 NoneOf [] = Unit
 NoneOf (r ∷ rs) = (r .when → ⊥) × NoneOf rs
 
--- the reader accepts exactly the frames that none of 1 to 5 describes
+-- D21: the reader accepts exactly the frames that none of 1 to 5 describes
 abbrev pub Reader : Type 0
 Reader = (s : List ℕ) (x : FrameReading) → ReadFrame s x → Accepted (paperFrame x .answer) ↔ NoneOf (readerRules s)
 
--- ---- the writer answers "written" exactly where none of 5, 4, 5, 2, 6 holds
+-- ---- a type that is not listed
 
+-- L6: is answered as unknown, with its number; and its body is lent as that of any other frame
+pub record AsUnknown (s : List ℕ) (f : Frame) (x : FrameReading) (b : List ℕ) : Type 0 where
+  pub type : paperFrame x .answer ≡ accepted (unknown (f .kind))
+  pub body : b ≡ part 8 (8 + f .len) s
+
+abbrev pub Unlisted : Type 0
+Unlisted =
+    (s b : List ℕ) (f : Frame) (x : FrameReading) → framing headerWidth bodyLimit s ≡ accepted f → named (f .kind) ≡ unlisted →
+    ReadFrame s x → FrameBody s b → AsUnknown s f x b
+
+-- ---- the bytes that each type's body takes
+
+-- L5: the shown counts of the first k entries of a snapshot, added up
+abbrev pub shownSum : List ℕ → ℕ → ℕ
+shownSum b zero = 0
+shownSum b (suc k) = shownSum b k + shown snapshotEntries b (place snapshotEntries b 69 k)
+
+-- L3: the bytes of each type with its groups
+abbrev pub bytesOf : Message → List ℕ → ℕ
+bytesOf heartbeat b = 0
+bytesOf channelHeartbeat b = 12
+bytesOf resend b = 44
+bytesOf statistics b = 14 + 15 * count statistics b
+bytesOf securityStatus b = 34 + 4 * count securityStatus b
+bytesOf snapshot b = 69 + 32 * count snapshot b + 8 * shownSum b (count snapshot b)
+bytesOf index b = 69 + 10 * count index b
+bytesOf volumeIndex b = 69
+bytesOf order b = 51
+bytesOf trade b = 66
+
+-- R4: a body is refused by 4 exactly where it has fewer
+abbrev pub Column : Type 0
+Column =
+    (m : Message) (b : List ℕ) (r : code-reading.Reading) → Read (typeNumber m) b r →
+    RefusedBy notItsLayout (record-paper.paper r .answer) ↔ (length b < bytesOf m b)
+
+-- ---- the tail: bytes behind a frame, and behind an accepted body, change nothing that is read
+
+-- what a call can answer of the longer bytes is what it answered where it accepted
+abbrev pub Unmoved : {R A B : Type 0} → (R → A) → (A → Answer B) → (R → Type 0) → (R → Type 0) → Type 0
+Unmoved {R} paper answer Can Longer = (r u : R) → Can r → Longer u → Accepted (answer (paper r)) → paper u ≡ paper r
+
+-- F5, L7: by each call that reads
+pub record Tail (b t : List ℕ) : Type 0 where
+  pub read-frame : Unmoved paperFrame (λ a. a .answer) (ReadFrame b) (ReadFrame (b ++ t))
+  pub read : (type : ℕ) → Unmoved record-paper.paper (λ a. a .answer) (Read type b) (Read type (b ++ t))
+  pub group-of : (type i : ℕ) → Unmoved record-paper.paperGroup (λ a. a .answer) (GroupOf type b i) (GroupOf type (b ++ t) i)
+  pub entry-of : (type i : ℕ) → Unmoved paperAskedEntry (λ a. a) (EntryOf type b i) (EntryOf type (b ++ t) i)
+  pub quantity-of : (type i j : ℕ) → Unmoved paperQuantity (λ a. a) (QuantityOf type b i j) (QuantityOf type (b ++ t) i j)
+
+-- ---- the writer, likewise
+
+-- D21: the writer accepts exactly what none of its refusals describes
 abbrev pub Writer : Type 0
 Writer =
     (r : Record) (ts gs out after : List ℕ) (a : Written) → Write r ts gs out a after →
     Accepted (paper a) ↔ NoneOf (writerRules (paperRecord r) ts gs (length out))
 
--- written: header, body by layout, checksum, and the old bytes behind them; refused: every byte as it stood
-pub data Holds (out : List ℕ) : Answer ℕ → Reading → List ℕ → List ℕ → List ℕ → Type 0 where
+-- W2: written: header, body by layout, checksum, and the old bytes behind them; refused: every byte as it stood
+pub data Leaves (out : List ℕ) : Answer ℕ → Reading → List ℕ → List ℕ → List ℕ → Type 0 where
   frame-first :
       {m : Message} {zs : List ℤ} {ts gs : List ℕ} {n : ℕ} → n ≡ 12 + bodyLength m gs →
-      Holds out (accepted n) (known m zs) ts gs (frameOf (typeNumber m) (body m zs ts gs) ++ drop n out)
-  as-it-stood : {n : ℕ} {vs : List ℕ} {x : Reading} {ts gs : List ℕ} → Holds out (refused n vs) x ts gs out
+      Leaves out (accepted n) (known m zs) ts gs (frameOf (typeNumber m) (body m zs ts gs) ++ drop n out)
+  as-it-stood : {n : ℕ} {vs : List ℕ} {x : Reading} {ts gs : List ℕ} → Leaves out (refused n vs) x ts gs out
 
+-- D21: what the output holds after every call
 abbrev pub Output : Type 0
 Output =
-    (r : Record) (ts gs out after : List ℕ) (a : Written) → Write r ts gs out a after → Holds out (paper a) (paperRecord r) ts gs after
+    (r : Record) (ts gs out after : List ℕ) (a : Written) → Write r ts gs out a after → Leaves out (paper a) (paperRecord r) ts gs after
 
--- ---- "What is written reads back as the same fields"
+-- ---- what is written reads back
 
 -- the numbers of a record are those that its fields hold, as they are in every record of the code
 abbrev pub Held : Reading → Type 0
@@ -75,17 +131,19 @@ pub record Reads (x : Reading) (ts gs : List ℕ) (n : ℕ) (s : List ℕ) : Typ
   pub fields : frameReading s ≡ told (accepted x) ts
   pub groups : groupsPart (frame .kind) (bodyOf headerWidth (accepted frame) s) ≡ gs
 
--- whatever stood in the output before, and so behind the frame
+-- D22: whatever stood in the output before, and so behind the frame
 abbrev pub ReadsBack : Type 0
 ReadsBack =
     (r : Record) (ts gs out after : List ℕ) (a : Written) (n : ℕ) → Held (paperRecord r) → Write r ts gs out a after →
     paper a ≡ accepted n → Reads (paperRecord r) ts gs n after
 
--- ---- "A frame of a listed type that is read and written again has the same bytes where its body has no extra tail"
+-- ---- what is read is written again with the same bytes
 
+-- L7: a body that ends with its layout
 abbrev pub NoTail : Message → List ℕ → Type 0
 NoTail m b = needs m b ≡ length b
 
+-- D23: an accepted frame, in any room that it fits, is written as it was read
 abbrev pub SameBytes : Type 0
 SameBytes =
     (s out after : List ℕ) (f : Frame) (m : Message) (x : FrameReading) (r : Record) (a : Written) → Bytes s →

@@ -1,4 +1,4 @@
--- What demand 1 says of an answer: a list of refusals in document 01's order, and what the answer is by it.
+-- What demand 1 says of an answer: a list of refusals in their order, and what the answer is by it.
 -- Assumes nothing.
 use Prim.Native.Nat.{ℕ}
 use mathlib.Core.Path.{_≡_}
@@ -6,27 +6,28 @@ use mathlib.Core.Logic.{_↔_}
 use mathlib.Core.List.{List, [], _∷_}
 use Rattle.wire.specs.Answer.{Answer, accepted, refused}
 
--- a refusal's number, and when document 01 gives it
+-- a refusal's number, and when it is given
 pub record Rule : Type 1 where
   pub number : ℕ
   pub when : Type 0
 
+-- a refusal's number, given where a condition holds
 infix 70 _if_
 abbrev pub _if_ : ℕ → Type 0 → Rule
 n if c = record { number = n; when = c }
 
--- the answer is the refusal of the first rule whose condition holds, and a success exactly where none does
+-- D12: the answer is the refusal of the first rule whose condition holds, and a success exactly where none does
 pub data Judged {A : Type 0} : List Rule → Answer A → Type 1 where
   success : {x : A} → Judged [] (accepted x)
   here : {r : Rule} {rs : List Rule} {vs : List ℕ} → r .when → Judged (r ∷ rs) (refused (r .number) vs)
   later : {r : Rule} {rs : List Rule} {a : Answer A} → (r .when → ⊥) → Judged rs a → Judged (r ∷ rs) a
 
--- judged by the rules; and behind them "no such entry" or "nothing missing", exactly where there is none
+-- A2, Q3, J8: judged by the rules; and behind them "no such entry" or "nothing missing", exactly where there is none
 pub record OrNone {A : Type 0} (rules : List Rule) (none : A) (when : Type 0) (answer : Answer A) : Type 1 where
   pub judged : Judged rules answer
   pub none-when : (x : A) → answer ≡ accepted x → (x ≡ none) ↔ when
 
--- judged by the rules, and on a refusal what is given back is as it stood
+-- J6, D12: judged by the rules, and on a refusal what is given back is as it stood
 pub record Kept {A S : Type 0} (rules : List Rule) (answer : Answer A) (stood given : S) : Type 1 where
   pub judged : Judged rules answer
   pub same : (n : ℕ) (vs : List ℕ) → answer ≡ refused n vs → given ≡ stood

@@ -1,5 +1,4 @@
--- Document 01, "What an entry says".
--- Entries by position, shown quantities and the cursor are defined here over layout's place, shown and judgedFrom.
+-- What an entry says; entries by position, shown quantities and the cursor, over layout's place, shown and judgedFrom.
 -- Assumes nothing.
 use Prim.Native.Nat.{ℕ, zero, suc, _+_, _-_, _*_}
 use mathlib.Core.Bool.{Bool, true, false, cond}
@@ -18,11 +17,11 @@ use Rattle.record.specs.Asked.{Asked, found, noSuchEntry, below, judging}
 
 -- ---- the two type characters, the first the higher byte
 
--- a digit, "right-filled with a space"
+-- E1: a digit, filled up by a space
 abbrev pub digit : ℕ → ℕ
 digit d = (0x30 + d) * 256 + 0x20
 
--- x and another character
+-- E1: x and another character
 abbrev pub x : ℕ → ℕ
 x c = 0x78 * 256 + c
 
@@ -57,26 +56,26 @@ xj = x 0x6a
 abbrev pub xk : ℕ
 xk = x 0x6b
 
--- "`0`, `1`"
+-- E2, E3: buy and sell levels
 abbrev pub levels : List ℕ
 levels = digit 0 ∷ digit 1 ∷ []
 
--- "`2` `4` `7` `8` `9` `x1` `x2` `x5` `x6` `x7` `x8` `x9` `xj` `xk`: a price"
+-- E4: the types of a snapshot that are a price whatever it is
 abbrev pub prices : List ℕ
 prices =
     digit 2 ∷ digit 4 ∷ digit 7 ∷ digit 8 ∷ digit 9 ∷ x-digit 1 ∷ x-digit 2 ∷ x-digit 5 ∷ x-digit 6 ∷ x-digit 7 ∷ x-digit 8 ∷ x-digit 9 ∷ xj ∷ xk ∷ []
 
--- "`x3` `x4`: price and size"
+-- E6: the types that are price and size
 abbrev pub boths : List ℕ
 boths = x-digit 3 ∷ x-digit 4 ∷ []
 
--- "In 309011 `3`, `xa`, `xb`, `xc`, `xd` are a price"
+-- E8: the types of an index that are a price
 abbrev pub indexPrices : List ℕ
 indexPrices = digit 3 ∷ xa ∷ xb ∷ xc ∷ xd ∷ []
 
 -- ---- the seven things
 
--- level: price, size, level number, order count, shown quantities; a level without a price: the same, but no price; a price; a size; price and size; no limit; unknown
+-- E1: a level (price, size, level number, order count, shown count), the same without a price, a price, a size, price and size, no limit, unknown
 pub data Says : Type 0 where
   level : ℤ → ℤ → ℤ → ℤ → ℤ → Says
   levelWithoutPrice : ℤ → ℤ → ℤ → ℤ → Says
@@ -86,7 +85,7 @@ pub data Says : Type 0 where
   noLimit : Says
   unknown : Says
 
--- "`xe` holding 9,999,999,999,999 or `xf` holding -9,999,999,999,999: no limit"
+-- E5: the price of `xe` that is no limit; of `xf` it is the negative
 abbrev pub noLimitMark : ℕ
 noLimitMark = 9999999999999
 
@@ -113,17 +112,17 @@ orderCountIn vs = getD vs 4 (pos 0)
 abbrev pub shownIn : List ℤ → ℤ
 shownIn vs = getD vs 5 (pos 0)
 
--- "a level", "with price 0: a level without a price"
+-- E2, E3: a level, which has no price where it is 0
 abbrev pub levelSaid : List ℤ → Says
 levelSaid vs =
     cond (same (priceIn vs) (pos 0)) (levelWithoutPrice (sizeIn vs) (levelIn vs) (orderCountIn vs) (shownIn vs))
     (level (priceIn vs) (sizeIn vs) (levelIn vs) (orderCountIn vs) (shownIn vs))
 
--- "`xe`, `xf` too, unless as next"
+-- E4, E5: a price, but no limit where it is the mark
 abbrev pub unless : ℤ → List ℤ → Says
 unless mark vs = cond (same (priceIn vs) mark) noLimit (price (priceIn vs))
 
--- "An entry reads as exactly one of seven things, by its two type characters"
+-- E1, E4, E6, E7, E8: which thing an entry says, by its two type characters
 unfoldable pub saysIn : Entries → ℕ → List ℤ → Says
 saysIn ofSnapshot type vs =
     cond (among levels type) (levelSaid vs)
@@ -134,11 +133,12 @@ saysIn ofSnapshot type vs =
     (cond (among boths type) (both (priceIn vs) (sizeIn vs)) unknown)))))
 saysIn ofIndex type vs = cond (among indexPrices type) (price (priceIn vs)) unknown
 
--- an entry: its two type characters, and what it says
+-- E1: an entry: its two type characters, and what it says
 pub record Entry : Type 0 where
   pub characters : ℕ
   pub says : Says
 
+-- E1: the entry at an offset
 unfoldable pub entryAt : Entries → List ℕ → ℕ → Entry
 entryAt e s at =
     record {
@@ -146,33 +146,35 @@ entryAt e s at =
       says = saysIn e (beAt s at (width entryType)) (values (entryGroup e .fields) s at);
     }
 
--- ---- "asked for by position from 0 (a type without them, or an unknown type, has count 0)"
+-- ---- by position
 
--- entry i
+-- A1: entry i, from 0
 abbrev pub entryIn : Behind → ℕ → List ℕ → ℕ → Asked Entry
 entryIn nothing end s i = noSuchEntry
 entryIn (groups g) end s i = noSuchEntry
 entryIn (entries e) end s i = below i (counted (entries e) end s) (entryAt e s (place (entryGroup e) s end i))
 
+-- A1: the same of a listed type or none
 abbrev pub entryOf : Listed → List ℕ → ℕ → Asked Entry
 entryOf (listed m) s i = entryIn (behind m) (start m) s i
 entryOf unlisted s i = noSuchEntry
 
--- after 4 and 5
+-- A2: entry i of a body that is judged first
 unfoldable pub entryAsked : ℕ → List ℕ → ℕ → Answer (Asked Entry)
 entryAsked type s i = andThen (judging type s) (λ (u : Unit). accepted (entryOf (named type) s i))
 
--- shown quantity j of the group at a place: the wire's count decides
+-- A4: shown quantity j of the group at an offset: the wire's count decides
 abbrev pub quantityAt : Group → List ℕ → ℕ → ℕ → Asked ℤ
 quantityAt g s at j =
     below j (shown g s at)
     (valueIn (form quantity) (beAt s (shownPlace g at + width quantity * j) (width quantity)))
 
--- shown quantity j of entry i
+-- A4: shown quantity j of entry i, where there is one
 abbrev pub ofFound : {A B : Type 0} → Asked A → Asked B → Asked B
 ofFound (found x) y = y
 ofFound noSuchEntry y = noSuchEntry
 
+-- A1: by what follows a type's fields
 abbrev pub quantityIn : Behind → ℕ → List ℕ → ℕ → ℕ → Asked ℤ
 quantityIn nothing end s i j = noSuchEntry
 quantityIn (groups g) end s i j = noSuchEntry
@@ -183,35 +185,38 @@ abbrev pub quantityOf : Listed → List ℕ → ℕ → ℕ → Asked ℤ
 quantityOf (listed m) s i j = quantityIn (behind m) (start m) s i j
 quantityOf unlisted s i j = noSuchEntry
 
+-- A2: quantity j of entry i of a body that is judged first
 unfoldable pub quantityAsked : ℕ → List ℕ → ℕ → ℕ → Answer (Asked ℤ)
 quantityAsked type s i j = andThen (judging type s) (λ (u : Unit). accepted (quantityOf (named type) s i j))
 
--- ---- the cursor: a place, and how many entries are left
+-- ---- the cursor
 
+-- A5: the offset of the next entry, and how many are left
 pub record At : Type 0 where
   pub place : ℕ
   pub left : ℕ
 
--- a type without entries, or an unknown type, has none left
+-- A5: a type without entries, or an unlisted one, has none left
 abbrev pub atNone : At
 atNone = record { place = 0; left = 0 }
 
--- before the first entry
+-- A5: before the first entry; nothing is judged
 abbrev pub startIn : Behind → ℕ → List ℕ → At
 startIn nothing end s = atNone
 startIn (groups g) end s = atNone
 startIn (entries e) end s = record { place = end; left = counted (entries e) end s }
 
+-- A5: the same of a listed type or none
 unfoldable pub startOf : Listed → List ℕ → At
 startOf (listed m) s = startIn (behind m) (start m) s
 startOf unlisted s = atNone
 
--- an entry, and the cursor behind it
+-- A6: an entry, and the cursor behind it
 pub record Stepped : Type 0 where
   pub entry : Entry
   pub onward : At
 
--- the entry at a cursor, after 4 and 5 for its own fields and shown quantities; at 0 left there is none
+-- A6: the entry at a cursor, after 4 and 5 for its own fields and shown quantities; at 0 left there is none
 abbrev pub stepIn : Behind → List ℕ → At → Answer (Asked Stepped)
 stepIn nothing s c = accepted noSuchEntry
 stepIn (groups g) s c = accepted noSuchEntry
@@ -226,6 +231,7 @@ stepIn (entries e) s c =
       onward = record { place = next (entryGroup e) s (c .place); left = c .left - 1 };
     }))))
 
+-- A6: the same of a listed type or none
 unfoldable pub stepOf : Listed → List ℕ → At → Answer (Asked Stepped)
 stepOf (listed m) s c = stepIn (behind m) s c
 stepOf unlisted s c = accepted noSuchEntry

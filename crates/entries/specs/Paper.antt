@@ -1,4 +1,4 @@
--- The code's answers in this paper's terms: for each case of an enum, the paper's number and values.
+-- The code's answers in the specs' terms: for each case of an enum, its number and values.
 -- Assumes nothing.
 use mathlib.Core.List.{[]}
 use lib.IntN.{ℤ, pos}
@@ -20,6 +20,7 @@ abbrev pub whose : code-entries.Entries → Entries
 whose code-entries.the-variants.OfSnapshot = ofSnapshot
 whose code-entries.the-variants.OfIndex = ofIndex
 
+-- which of the seven things the code means
 abbrev pub paperSays : code-says.Says → Says
 paperSays (code-says.the-variants.Level p z l o n) = level p z (pos l) o (pos n)
 paperSays (code-says.the-variants.LevelWithoutPrice z l o n) = levelWithoutPrice z (pos l) o (pos n)
@@ -32,6 +33,7 @@ paperSays code-says.the-variants.Unknown = unknown
 abbrev pub paperEntry : code-entry.Entry → Entry
 paperEntry e = record { characters = e .characters; says = paperSays (e .says) }
 
+-- what the calls by position answer
 abbrev pub paperAskedEntry : asked-entry.AskedEntry → Answer (Asked Entry)
 paperAskedEntry (asked-entry.the-variants.Found e) = accepted (found (paperEntry e))
 paperAskedEntry asked-entry.the-variants.NoSuchEntry = accepted noSuchEntry
@@ -42,6 +44,7 @@ paperQuantity (asked-quantity.the-variants.Found z) = accepted (found z)
 paperQuantity asked-quantity.the-variants.NoSuchEntry = accepted noSuchEntry
 paperQuantity (asked-quantity.the-variants.Refused x) = refused (refusal x) []
 
+-- the cursor, and its step
 abbrev pub paperCursor : code-cursor.Cursor → At
 paperCursor c = record { place = c .place; left = c .left }
 

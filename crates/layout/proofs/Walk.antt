@@ -1,8 +1,8 @@
 -- Groups one after the other: one step of each definition, at the code's k and k - 1; a group in the part that holds its fields; how a walk is judged.
 -- Assumes nothing.
 use Prim.Native.Nat.{ℕ, zero, suc, _+_, _-_, _*_, _<_, _≤_, zero-le}
-use mathlib.Core.Path.{_≡_, refl, ap, sym, _∙_}
-use mathlib.Core.Bool.{Bool, true, false, not, _&&_}
+use mathlib.Core.Path.{_≡_, refl, sym, _∙_}
+use mathlib.Core.Bool.{Bool, true, false, _&&_}
 use mathlib.Core.List.{List, [], _∷_}
 use native.Mathlib.Nat.{mul-suc}
 use native.Mathlib.Omega.{arith}
@@ -12,7 +12,7 @@ use lib.ListN.{length, take, drop}
 use Rattle.wire.specs.Answer.{Answer, accepted, refused, guard}
 use Rattle.wire.specs.Bytes.{beAt, part}
 use Rattle.wire.specs.Refusal.{notItsLayout}
-use Rattle.wire.proofs.Be.{beAt-part, beAt-here}
+use Rattle.wire.proofs.Be.{beAt-part}
 use Rattle.layout.specs.Kind.{Kind, quantity, width, ranged}
 use Rattle.layout.specs.Layout.{Message, fields, Group, size, ranges}
 use Rattle.layout.specs.Group.{shown, shownPlace, next, place, fit, quantities, groupRanges, verdict, judgedFrom, placeFrom, also, noGroup, group, start, count, needs, whole, judged}

@@ -1,6 +1,6 @@
--- Document 01, "Widths" and "Ranges of fields": the kinds of fields by name, the width and the range of each.
+-- The kinds of fields by name, the width and the range of each.
 -- Assumes nothing.
-use Prim.Native.Nat.{ℕ, _/_, _%_, _^_}
+use Prim.Native.Nat.{ℕ, _/_, _%_}
 use mathlib.Core.Bool.{Bool, true, false, _&&_, _||_}
 use mathlib.Core.List.{List, [], _∷_}
 use lib.Dec.{leb, eqb}
@@ -9,7 +9,7 @@ use lib.Signed.{leZ}
 use mir.Syntax.{w64}
 use mir.Val.{toZ}
 
--- the texts: fields of more than one character
+-- L2: the texts, fields of more than one character
 pub data Text : Type 0 where
   stream : Text
   security : Text
@@ -19,7 +19,7 @@ pub data Text : Type 0 where
   newsId : Text
   rejectText : Text
 
--- the kinds of fields
+-- L1, L2: the kinds of fields
 pub data Kind : Type 0 where
   channel : Kind
   number : Kind
@@ -51,7 +51,7 @@ pub data Kind : Type 0 where
 
 -- ---- Widths
 
--- "Stream code 3 characters. Security 8, source 4, phase 8, financial status 8 characters", "News id 8, reject text 16 characters"
+-- L2: how many characters a text has
 abbrev pub characters : Text → ℕ
 characters stream = 3
 characters security = 8
@@ -71,13 +71,13 @@ textNumber financialStatus = 4
 textNumber newsId = 5
 textNumber rejectText = 6
 
--- how a field is held: a number without a sign in some bytes, a number of eight bytes with a sign, or characters
+-- L1: how a field is held: a number without a sign in some bytes, a number of eight bytes with a sign, or characters
 pub data Form : Type 0 where
   unsigned : ℕ → Form
   signed : Form
   written : Text → Form
 
--- "Channel 2. Record, last, first, bid and offer numbers 8, signed", and so to the end of "Widths"
+-- L1: the form of each kind
 abbrev pub form : Kind → Form
 form channel = unsigned 2
 form number = signed
@@ -113,6 +113,7 @@ bytes (unsigned w) = w
 bytes signed = 8
 bytes (written t) = characters t
 
+-- L1: how many bytes a kind takes
 abbrev pub width : Kind → ℕ
 width k = bytes (form k)
 
@@ -124,22 +125,23 @@ valueIn (written t) v = pos v
 
 -- ---- Ranges of fields
 
--- "Every price (order, trade, entry, previous close) .. lies within ±9,999,999,999,999"; an entry's stands by itself
+-- N1: the highest price of an order, a trade or a previous close
 abbrev pub priceLimit : ℕ
 priceLimit = 9999999999999
 
+-- N2: the highest price of an entry
 abbrev pub entryPriceLimit : ℕ
 entryPriceLimit = 9999999999999
 
--- "A quantity, size or volume (two decimals) is 0 to 999,999,999,999,999"
+-- N3: the largest quantity, size or volume
 abbrev pub quantityLimit : ℕ
 quantityLimit = 999999999999999
 
--- "An amount (four decimals) is 0 to 999,999,999,999,999,999"
+-- N4: the largest amount
 abbrev pub amountLimit : ℕ
 amountLimit = 999999999999999999
 
--- the characters of sides, order types and execution types
+-- N7: the characters of sides, order types and execution types
 abbrev pub char1 : ℕ
 char1 = 0x31
 
@@ -158,7 +160,7 @@ charG = 0x47
 abbrev pub charU : ℕ
 charU = 0x55
 
--- "A time is YYYYMMDDHHMMSSsss as one number"
+-- N8: the parts of a time, by its decimal digits
 abbrev pub year : ℕ → ℕ
 year t = t / 10000000000000
 
@@ -181,7 +183,7 @@ second t = t / 1000 % 100
 abbrev pub from : ℕ → ℕ → ℕ → Bool
 from low high n = leb low n && leb n high
 
--- "not negative: month 1 to 12, day 1 to 31, hour 0 to 23, minute 0 to 59, second 0 to 60, year 0 to 9999"
+-- N8: a time has each part in its range, and none is below 0
 unfoldable pub timely : ℤ → Bool
 timely (pos t) =
     from 1 12 (month t)
@@ -202,6 +204,7 @@ pub data Range : Type 0 where
   oneOf : List ℕ → Range
   aTime : Range
 
+-- whether a number is in a range
 abbrev pub within : Range → ℤ → Bool
 within free z = true
 within (atLeast low) z = leZ low z
@@ -210,14 +213,14 @@ within (oneOf cs) (pos n) = among cs n
 within (oneOf cs) (negsuc n) = false
 within aTime z = timely z
 
--- "within ±": as far below 0 as above
+-- as far below 0 as above
 abbrev pub around : ℕ → Range
 around limit = between (negℤ (pos limit)) (pos limit)
 
 abbrev pub upTo : ℕ → Range
 upTo limit = between (pos 0) (pos limit)
 
--- "Ranges of fields", in its order; "Other characters and numbers are free"
+-- N1, N2, N3, N4, N5, N6, N7, N8, N9: the range of each kind
 abbrev pub range : Kind → Range
 range orderPrice = around priceLimit
 range tradePrice = around priceLimit
@@ -247,6 +250,6 @@ range stockNumber = free
 range switchType = free
 range (text t) = free
 
--- whether the number that a field's bytes make, read without a sign, is in the field's range
+-- N10: whether the number that a field's bytes make, read without a sign, is in the field's range
 unfoldable pub ranged : Kind → ℕ → Bool
 ranged k v = within (range k) (valueIn (form k) v)

@@ -1,4 +1,4 @@
--- Document 01's table of types: the fields of each listed type in order; and what the fields of a layout say.
+-- The table of types: the fields of each listed type in order; and what the fields of a layout say.
 -- Assumes nothing.
 use Prim.Native.Nat.{ℕ, _+_}
 use mathlib.Core.Bool.{Bool, true, false, cond, _&&_}
@@ -11,7 +11,7 @@ use Rattle.layout.specs.Kind.{Text, stream, security, source, phase, fin
 
 -- ---- the table
 
--- the listed types
+-- L3: the listed types
 pub data Message : Type 0 where
   heartbeat : Message
   channelHeartbeat : Message
@@ -24,7 +24,7 @@ pub data Message : Type 0 where
   order : Message
   trade : Message
 
--- the first column: the type's number
+-- L3: the first column, the type's number
 abbrev pub typeNumber : Message → ℕ
 typeNumber heartbeat = 3
 typeNumber channelHeartbeat = 390095
@@ -37,12 +37,12 @@ typeNumber volumeIndex = 309111
 typeNumber order = 300192
 typeNumber trade = 300191
 
--- "Common part, 65 bytes"
+-- L4: the fields that snapshot, index and volume index share
 abbrev pub commonPart : List Kind
 commonPart =
     time ∷ channel ∷ text stream ∷ text security ∷ text source ∷ text phase ∷ previousClose ∷ tradeCount ∷ quantity ∷ amount ∷ []
 
--- the second column, as far as a type's fields stand once
+-- L3: the second column, as far as a type's fields stand once
 abbrev pub fields : Message → List Kind
 fields heartbeat = []
 fields channelHeartbeat = channel ∷ lastNumber ∷ yesNo ∷ []
@@ -57,24 +57,24 @@ fields order =
 fields trade =
     channel ∷ number ∷ text stream ∷ bidNumber ∷ offerNumber ∷ text security ∷ text source ∷ tradePrice ∷ quantity ∷ execution ∷ time ∷ []
 
--- what stands as often as a count says: its fields, and whether the last of them counts shown quantities that follow
+-- L5: what stands as often as a count says: its fields, and whether the last of them counts shown quantities that follow
 pub record Group : Type 0 where
   pub fields : List Kind
   pub shows : Bool
 
--- "then per group: stream, stock number, phase"
+-- L3: a group of statistics
 abbrev pub streams : Group
 streams = record { fields = text stream ∷ stockNumber ∷ text phase ∷ []; shows = false }
 
--- "then switch type, yes/no"
+-- L3: a group of a security status
 abbrev pub switches : Group
 switches = record { fields = switchType ∷ yesNo ∷ []; shows = false }
 
--- "then entry type, price"
+-- L3: an entry of an index
 abbrev pub indexEntries : Group
 indexEntries = record { fields = entryType ∷ entryPrice ∷ []; shows = false }
 
--- "then per entry: entry type, price, size, level, order count, shown count n, n quantities"
+-- L3: an entry of a snapshot, which shows quantities
 abbrev pub snapshotEntries : Group
 snapshotEntries =
     record { fields = entryType ∷ entryPrice ∷ quantity ∷ level ∷ orderCount ∷ groupCount ∷ []; shows = true }
@@ -94,7 +94,7 @@ pub data Behind : Type 0 where
   groups : Group → Behind
   entries : Entries → Behind
 
--- the second column's rest
+-- L3: the second column's rest
 abbrev pub behind : Message → Behind
 behind heartbeat = nothing
 behind channelHeartbeat = nothing
@@ -107,11 +107,12 @@ behind volumeIndex = nothing
 behind order = nothing
 behind trade = nothing
 
--- "The type number alone chooses the layout": the listed type of a number, or none
+-- L6: the listed type of a number, or none
 pub data Listed : Type 0 where
   listed : Message → Listed
   unlisted : Listed
 
+-- L3: all of them
 abbrev pub messages : List Message
 messages =
     heartbeat ∷ channelHeartbeat ∷ resend ∷ statistics ∷ securityStatus ∷ snapshot ∷ index ∷ volumeIndex ∷ order ∷ trade ∷ []
@@ -120,12 +121,13 @@ abbrev pub chosen : List Message → ℕ → Listed
 chosen [] type = unlisted
 chosen (m ∷ ms) type = cond (eqb type (typeNumber m)) (listed m) (chosen ms type)
 
+-- L6: the type's number alone chooses
 unfoldable pub named : ℕ → Listed
 named type = chosen messages type
 
--- ---- what the fields of a layout say, from a place of some bytes on
+-- ---- what the fields of a layout say, from an offset of some bytes on
 
--- the third column: how many bytes the fields take
+-- L3: the third column, how many bytes the fields take
 unfoldable pub size : List Kind → ℕ
 size [] = 0
 size (k ∷ ks) = width k + size ks
@@ -135,22 +137,24 @@ unfoldable pub ranges : List Kind → List ℕ → ℕ → Bool
 ranges [] s at = true
 ranges (k ∷ ks) s at = ranged k (beAt s at (width k)) && ranges ks s (at + width k)
 
--- the numbers of the fixed fields, in the layout's order; a text is none
+-- the number of a field; a text is none
 abbrev pub valueAt : Form → List ℕ → ℕ → List ℤ
 valueAt (unsigned w) s at = valueIn (unsigned w) (beAt s at w) ∷ []
 valueAt signed s at = valueIn signed (beAt s at 8) ∷ []
 valueAt (written t) s at = []
 
+-- L8: the numbers of the fixed fields, in the layout's order
 unfoldable pub values : List Kind → List ℕ → ℕ → List ℤ
 values [] s at = []
 values (k ∷ ks) s at = valueAt (form k) s at ++ values ks s (at + width k)
 
--- the texts, one behind the other in the layout's order
+-- the text of a field; a number is none
 abbrev pub textAt : Form → List ℕ → ℕ → List ℕ
 textAt (unsigned w) s at = []
 textAt signed s at = []
 textAt (written t) s at = take (characters t) (drop at s)
 
+-- L8: the texts, one behind the other in the layout's order
 unfoldable pub texts : List Kind → List ℕ → ℕ → List ℕ
 texts [] s at = []
 texts (k ∷ ks) s at = textAt (form k) s at ++ texts ks s (at + width k)
@@ -166,7 +170,7 @@ isText t (unsigned w) = false
 isText t signed = false
 isText t (written u) = eqb (textNumber t) (textNumber u)
 
--- a text by its name, out of the texts of a layout; nothing where the layout does not have it
+-- L9: a text by its name, out of the texts of a layout; nothing where the layout does not have it
 unfoldable pub textIn : Text → List Kind → List ℕ → List ℕ
 textIn t [] ts = []
 textIn t (k ∷ ks) ts = cond (isText t (form k)) (take (characters t) ts) (textIn t ks (textsBehind (form k) ts))

@@ -1,4 +1,4 @@
--- The code's groups and verdicts in this paper's terms.
+-- The code's groups and verdicts in the specs' terms.
 -- Assumes nothing.
 use Prim.Native.Nat.{ℕ}
 use mathlib.Core.List.{[]}

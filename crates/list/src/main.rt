@@ -1,4 +1,4 @@
-// Document 01's listing program: offset, type and body length of each frame on standard input, up to the end or to a refusal 1 to 3.
+// The listing program: offset, type and body length of each frame on standard input, up to the end or to a refusal 1 to 3.
 ghost use Prim.Native.Nat.{_≤_};
 ghost use lib.ListN.{length};
 use frame::Frame;

@@ -15,7 +15,7 @@ use Rattle.orizhgum.specs.declared.entry.QuantityAnswer.{QuantityAnswer}
 
 -- ---- the price
 
--- the price that an entry says, or none
+-- C7: the price that an entry says, or none
 pub data Price : Type 0 where
   here : ℤ → Price
   none : Price
@@ -29,21 +29,23 @@ priceOf (both p z) = here p
 priceOf noLimit = none
 priceOf unknown = none
 
+-- C7: the answer's number
 abbrev pub priceNumber : Price → ℕ
 priceNumber (here p) = plain
 priceNumber none = noPrice
 
--- what a lent number holds then: where there is no price, what it held
+-- C7: what a lent number holds then: where there is no price, what it held
 abbrev pub priceLeft : Price → ℤ → ℤ
 priceLeft (here p) z = p
 priceLeft none z = z
 
--- the answer of a call for the price of an entry that is asked for, and the lent number
+-- C7: the answer of a call for the price of an entry that is asked for
 unfoldable pub pricing : Answer (Asked entry-of.Entry) → ℕ
 pricing (accepted (found e)) = priceNumber (priceOf (e .says))
 pricing (accepted noSuchEntry) = noSuchEntryNumber
 pricing (refused n vs) = n
 
+-- C7: what the lent number holds then
 unfoldable pub pricedLeft : Answer (Asked entry-of.Entry) → ℤ → ℤ
 pricedLeft (accepted (found e)) z = priceLeft (priceOf (e .says)) z
 pricedLeft (accepted noSuchEntry) z = z
@@ -51,11 +53,11 @@ pricedLeft (refused n vs) z = z
 
 -- ---- all else
 
--- an entry that is none: all zero
+-- C6: an entry that is none: all zero
 abbrev pub noEntry : Entry
 noEntry = record { says = 0; characters = 0; level = 0; size = pos 0; «order_count» = pos 0; shown = 0 }
 
--- the seven things, by number
+-- C6: the seven things, by number
 abbrev pub saysLevel : ℕ
 saysLevel = 1
 
@@ -86,7 +88,7 @@ abbrev pub leveled : ℕ → ℕ → ℤ → ℤ → ℤ → ℤ → Entry
 leveled says t z l o n =
     record { says = says; characters = t; level = natAbs l; size = z; «order_count» = o; shown = natAbs n }
 
--- what an entry of some type characters says, but for its price
+-- C6: what an entry of some type characters says, but for its price
 abbrev pub saying : ℕ → Says → Entry
 saying t (level p z l o n) = leveled saysLevel t z l o n
 saying t (levelWithoutPrice z l o n) = leveled saysLevelWithoutPrice t z l o n
@@ -96,20 +98,23 @@ saying t (both p z) = bare saysBoth t z
 saying t noLimit = bare saysNoLimit t (pos 0)
 saying t unknown = bare saysUnknown t (pos 0)
 
+-- C6: an entry's struct
 abbrev pub shownEntry : entry-of.Entry → Entry
 shownEntry e = saying (e .characters) (e .says)
 
+-- C6: an entry by position
 unfoldable pub entryAnswer : Answer (Asked entry-of.Entry) → EntryAnswer
 entryAnswer (accepted (found e)) = record { answer = plain; entry = shownEntry e }
 entryAnswer (accepted noSuchEntry) = record { answer = noSuchEntryNumber; entry = noEntry }
 entryAnswer (refused n vs) = record { answer = n; entry = noEntry }
 
+-- C1: a shown quantity by position; 0 without one
 unfoldable pub quantityAnswer : Answer (Asked ℤ) → QuantityAnswer
 quantityAnswer (accepted (found z)) = record { answer = plain; quantity = z }
 quantityAnswer (accepted noSuchEntry) = record { answer = noSuchEntryNumber; quantity = pos 0 }
 quantityAnswer (refused n vs) = record { answer = n; quantity = pos 0 }
 
--- a step; without an entry the cursor stays
+-- C8: a step; without an entry the cursor stays
 unfoldable pub stepAnswer : Answer (Asked Stepped) → Cursor → StepAnswer
 stepAnswer (accepted (found x)) c =
     record {

@@ -8,7 +8,7 @@ use Rattle.record.specs.Asked.{Told, Asked, found, noSuchEntry}
 use Rattle.orizhgum.specs.Numbers.{plain, noSuchEntryNumber}
 use Rattle.orizhgum.specs.declared.groups.Grouped.{Grouped}
 
--- "stream, stock number, phase" has one number, "switch type, yes/no" two
+-- C5: a group of 390090 has one number, a group of 390013 two
 abbrev pub numbered : List ℤ → List ℕ → Grouped
 numbered [] ts =
     record { answer = plain; «stock_number» = 0; «switch_type» = 0; «yes_no» = 0; texts = ts }
@@ -17,14 +17,16 @@ numbered (x ∷ []) ts =
 numbered (x ∷ (y ∷ vs)) ts =
     record { answer = plain; «stock_number» = 0; «switch_type» = natAbs x; «yes_no» = natAbs y; texts = ts }
 
--- without a group, the answer's number and zeros
+-- C5: without a group, the answer's number and zeros
 abbrev pub without : ℕ → List ℕ → Grouped
 without n ts = record { answer = n; «stock_number» = 0; «switch_type» = 0; «yes_no» = 0; texts = ts }
 
+-- C5: by the answer
 abbrev pub groupTold : Answer (Asked (List ℤ)) → List ℕ → Grouped
 groupTold (accepted (found vs)) ts = numbered vs ts
 groupTold (accepted noSuchEntry) ts = without noSuchEntryNumber ts
 groupTold (refused n vs) ts = without n ts
 
+-- C5: a group by position
 unfoldable pub groupAnswer : Told (Asked (List ℤ)) → Grouped
 groupAnswer t = groupTold (t .answer) (t .texts)

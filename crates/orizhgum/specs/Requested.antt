@@ -5,7 +5,7 @@ use Rattle.tracker.specs.Request.{Said, written, nothing}
 use Rattle.orizhgum.specs.Numbers.{plain, nothingMissingNumber}
 use Rattle.orizhgum.specs.declared.written.WriteAnswer.{WriteAnswer}
 
--- how many bytes were written; "No run: nothing missing, nothing written"; "a refusal returns its number"
+-- C10: how many bytes were written, none but for the plain answer
 unfoldable pub requestAnswer : Answer Said → WriteAnswer
 requestAnswer (accepted (written n)) = record { answer = plain; written = n }
 requestAnswer (accepted nothing) = record { answer = nothingMissingNumber; written = 0 }

@@ -5,7 +5,7 @@ use Rattle.wire.specs.Answer.{Answer, accepted, refused}
 use Rattle.orizhgum.specs.Numbers.{plain}
 use Rattle.orizhgum.specs.declared.written.WriteAnswer.{WriteAnswer}
 
--- how many bytes were written; "a refusal returns its number"
+-- C10: how many bytes were written, none by a refusal
 unfoldable pub writeAnswer : Answer ℕ → WriteAnswer
 writeAnswer (accepted n) = record { answer = plain; written = n }
 writeAnswer (refused n vs) = record { answer = n; written = 0 }

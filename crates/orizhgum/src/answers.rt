@@ -1,4 +1,4 @@
-// The numbers of the answers: 0 is the plain one, 1 to 99 are document 01's refusals, 100 and up the others.
+// The numbers of the answers: 0 is the plain one, 1 to 99 are the refusals, 100 and up the others.
 ghost use mathlib.Core.Path.{_≡_};
 ghost use Rattle.layout.specs.Paper.{refusal};
 use layout::Refusal;
@@ -17,7 +17,7 @@ pub(crate) const DUPLICATE: u32 = 104;
 
 pub(crate) const NOTHING_MISSING: u32 = 105;
 
-// The paper's number of a body's refusal.
+// The number of a body's refusal.
 pub(crate) fn number(x: Refusal) -> u32
     ensures { λ r. ⌜ r ≡ refusal x ⌝ }
 {

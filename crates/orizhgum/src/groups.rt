@@ -5,6 +5,7 @@ ghost use Rattle.orizhgum.specs.Groups.{groupAnswer};
 use crate::answers::NO_SUCH_ENTRY;
 use crate::answers::PLAIN;
 use crate::answers::number;
+use layout::TEXT_ROOM;
 use record::GroupAnswer;
 
 // A group: the stock number and the texts of a stream, or a switch type and its yes/no; the others are zero.
@@ -14,7 +15,7 @@ pub struct Grouped {
     pub stock_number: u32,
     pub switch_type: u16,
     pub yes_no: u16,
-    pub texts: [u8; 24],
+    pub texts: [u8; TEXT_ROOM],
 }
 
 // Group i of a body, from 0.

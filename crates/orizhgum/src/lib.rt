@@ -1,4 +1,4 @@
-// The C interface: exported functions over the crates below. Answer 0 is the plain one, 1 to 99 are document 01's refusals.
+// The C interface: exported functions over the crates below. Answer 0 is the plain one, 1 to 99 are the refusals.
 ghost use mathlib.Core.Path.{_≡_};
 ghost use Rattle.frame.specs.Framing.{framing, headerWidth, bodyLimit};
 ghost use Rattle.orizhgum.specs.Numbers.{frameAnswer};
@@ -6,11 +6,11 @@ use frame::Framed;
 
 mod answers;
 pub mod arrivals;
-mod entry;
-mod groups;
+pub mod entry;
+pub mod groups;
 pub mod records;
 pub mod requested;
-mod written;
+pub mod written;
 
 // The frame that some bytes begin with: its type, the body's length and the length of the frame; zeros where it is refused.
 #[repr(C)]

@@ -25,7 +25,7 @@ pub struct WriteAnswer {
     pub written: usize,
 }
 
-// The paper's number of a writer's refusal.
+// The number of a writer's refusal.
 fn refusal_number(x: Refusal) -> u32
     ensures { λ r. ⌜ r ≡ writer_paper.number x ⌝ }
 {

@@ -1,14 +1,14 @@
 -- Which layout a type number chooses, and what that says of each call.
 -- Assumes nothing.
 use Prim.Native.Nat.{ℕ}
-use mathlib.Core.Path.{_≡_, refl, sym, _∙_}
+use mathlib.Core.Path.{_≡_, refl}
 use mathlib.Core.Bool.{Bool, true, false, cond}
 use mathlib.Core.List.{List, [], _∷_}
 use native.Mathlib.Omega.{arith}
 use borrow.Author.Tests.{ne-eqb, eqb-true}
 use lib.Dec.{eqb}
-use Rattle.wire.specs.Answer.{Answer, accepted, refused}
-use Rattle.layout.specs.Layout.{Message, heartbeat, channelHeartbeat, resend, statistics, securityStatus, snapshot, index, volumeIndex, order, trade, typeNumber, Listed, listed, unlisted, chosen, messages, named}
+use Rattle.wire.specs.Answer.{accepted}
+use Rattle.layout.specs.Layout.{Message, heartbeat, channelHeartbeat, resend, statistics, securityStatus, snapshot, index, volumeIndex, order, trade, typeNumber, listed, unlisted, chosen, messages, named}
 use Rattle.layout.specs.Group.{judged}
 use Rattle.record.specs.Asked.{told, judging}
 use Rattle.record.specs.Record.{unknown, readAs, reading, isListed}

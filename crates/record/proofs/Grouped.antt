@@ -1,17 +1,16 @@
 -- Groups by position, and the groups of a body as a part of it.
 -- Assumes nothing.
 use Prim.Native.Nat.{ℕ, _+_, _-_, _≤_, _<_}
-use mathlib.Core.Path.{_≡_, refl, ap, sym, _∙_}
-use mathlib.Core.Bool.{true, false}
+use mathlib.Core.Path.{_≡_, refl, ap, _∙_}
 use mathlib.Core.List.{List, []}
 use native.Mathlib.Omega.{arith}
 use borrow.Author.Tests.{lt-ltb, le-ltb}
 use lib.IntN.{ℤ}
 use lib.ListN.{length}
-use Rattle.wire.specs.Answer.{Answer, accepted, refused}
+use Rattle.wire.specs.Answer.{accepted, refused}
 use Rattle.wire.specs.Bytes.{beAt, part}
 use Rattle.layout.specs.Layout.{Message, heartbeat, channelHeartbeat, resend, statistics, securityStatus, snapshot, index, volumeIndex, order, trade, typeNumber, Listed, listed, unlisted, named, Group, groups, behind, size, values, texts}
-use Rattle.layout.specs.Group.{fit, place, group, start, count, judged}
+use Rattle.layout.specs.Group.{place, group, start, count, judged}
 use Rattle.layout.proofs.Walk.{has-all, fields-there}
 use Rattle.record.specs.Asked.{told, filled, found, noSuchEntry, judgedAs, judging}
 use Rattle.record.specs.Record.{groupAs, groupListed, groupAsked, groupsAs, groupsListed, groupsPart}

@@ -1,8 +1,8 @@
 -- What a body tells, by how it was judged.
 -- Assumes nothing.
-use Prim.Native.Nat.{ℕ, _+_, _<_, _≤_, _^_}
-use mathlib.Core.Path.{_≡_, refl, ap, sym, _∙_}
-use mathlib.Core.Bool.{Bool, true, and-true}
+use Prim.Native.Nat.{ℕ, _+_, _<_, _^_}
+use mathlib.Core.Path.{_≡_, ap, sym, _∙_}
+use mathlib.Core.Bool.{true, and-true}
 use mathlib.Core.List.{List, [], _∷_, _++_}
 use lib.Dec.{leb·zero}
 use lib.IntN.{ℤ}
@@ -18,7 +18,7 @@ use Rattle.frame.specs.Framing.{headerWidth, bodyLimit, framing}
 use Rattle.frame.specs.declared.Frame.{Frame}
 use Rattle.frame.specs.declared.Framed.{Framed}
 use Rattle.layout.specs.Kind.{Kind, ranged}
-use Rattle.layout.specs.Layout.{Message, heartbeat, fields, commonPart, size, ranges, values, texts}
+use Rattle.layout.specs.Layout.{Message, heartbeat, fields, commonPart, size, ranges, texts}
 use Rattle.layout.specs.Group.{fit, groupRanges, judged}
 use Rattle.layout.specs.Paper as layout-paper
 use Rattle.layout.specs.declared.group.Verdict.{Verdict}

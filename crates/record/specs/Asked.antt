@@ -1,15 +1,15 @@
 -- Answers with the texts that go with them, and what is asked for by position.
 -- Assumes nothing.
-use Prim.Native.Nat.{ℕ, zero, suc, _-_, _<_}
+use Prim.Native.Nat.{ℕ, zero, suc, _-_}
 use mathlib.Core.Bool.{cond}
 use mathlib.Core.List.{List, [], _∷_, _++_}
 use lib.Dec.{ltb}
 use lib.ListN.{length}
 use Rattle.wire.specs.Answer.{Answer, accepted, refused}
-use Rattle.layout.specs.Layout.{Message, Listed, listed, unlisted, named}
+use Rattle.layout.specs.Layout.{Listed, listed, unlisted, named}
 use Rattle.layout.specs.Group.{judged}
 
--- the most bytes that the texts of one record take: those of a 390094, 8 and 16
+-- L8: the most bytes that the texts of one record take: those of a 390094, 8 and 16
 abbrev pub textRoom : ℕ
 textRoom = 24
 
@@ -17,36 +17,39 @@ abbrev pub zeros : ℕ → List ℕ
 zeros zero = []
 zeros (suc n) = 0 ∷ zeros n
 
--- texts in their room, unused places zero
+-- L8: texts in their room, zero behind them
 abbrev pub filled : List ℕ → List ℕ
 filled t = t ++ zeros (textRoom - length t)
 
--- an answer, its texts in their room, and how many bytes of it they take
+-- L8: an answer, its texts in their room, and how many bytes of it they take
 pub record Told (A : Type 0) : Type 0 where
   pub answer : Answer A
   pub texts : List ℕ
   pub used : ℕ
 
+-- L8: an answer with these texts
 abbrev pub told : {A : Type 0} → Answer A → List ℕ → Told A
 told a t = record { answer = a; texts = filled t; used = length t }
 
--- what a body that was judged tells; "a refusal returns its number and, in the reader, no body"
+-- J6: what a body that was judged tells; a refused one has neither record nor texts
 abbrev pub onceAccepted : {A : Type 0} → Answer Unit → A → List ℕ → Told A
 onceAccepted (accepted u) a t = told (accepted a) t
 onceAccepted (refused n vs) a t = told (refused n vs) []
 
--- "one not below the count is answered "no such entry""
+-- A2, J8: what is asked for by position: found, or no such entry
 pub data Asked (A : Type 0) : Type 0 where
   found : A → Asked A
   noSuchEntry : Asked A
 
+-- A2: found where the position is below the count
 abbrev pub below : {A : Type 0} → ℕ → ℕ → A → Asked A
 below i count x = cond (ltb i count) (found x) noSuchEntry
 
--- how a type's body is judged, by its number; "An unlisted type is not refused"
+-- L6, J2: how a type's body is judged; an unlisted type is never refused
 abbrev pub judgedAs : Listed → List ℕ → Answer Unit
 judgedAs (listed m) s = judged m s
 judgedAs unlisted s = accepted tt
 
+-- J2: the same by the type's number
 abbrev pub judging : ℕ → List ℕ → Answer Unit
 judging type s = judgedAs (named type) s

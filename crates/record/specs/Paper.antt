@@ -1,6 +1,5 @@
--- The code's answers in this paper's terms: for each case of an enum, the paper's number and values.
+-- The code's answers in the specs' terms: for each case of an enum, its number and values.
 -- Assumes nothing.
-use Prim.Native.Nat.{ℕ}
 use mathlib.Core.List.{List, [], _∷_}
 use lib.IntN.{ℤ, pos}
 use Rattle.wire.specs.Answer.{Answer, accepted, refused}
@@ -21,11 +20,12 @@ use Rattle.record.specs.declared.group.GroupReading as group-reading
 
 -- ---- records
 
--- the common part, and what follows it
+-- L4: the common part, and what follows it
 abbrev pub commonValues : Common → List ℤ → List ℤ
 commonValues c rest =
     c .time ∷ pos (c .channel) ∷ c .«previous_close» ∷ c .«trade_count» ∷ c .volume ∷ c .amount ∷ rest
 
+-- L8: the numbers of each type's struct, in the layout's order
 abbrev pub paperRecord : Record → record-of.Reading
 paperRecord Heartbeat = record-of.known heartbeat []
 paperRecord (ChannelHeartbeat r) =
@@ -49,10 +49,11 @@ abbrev pub paperAnswer : code-answer.Answer → Answer record-of.Reading
 paperAnswer (code-answer.the-variants.Read r) = accepted (paperRecord r)
 paperAnswer (code-answer.the-variants.Refused x) = refused (refusal x) []
 
+-- L8: an answer with its texts
 abbrev pub paper : code-reading.Reading → Told record-of.Reading
 paper r = record { answer = paperAnswer (r .answer); texts = r .texts .bytes; used = r .texts .length }
 
--- a frame's bytes: 1 to 3 are the frame's refusals, 4 and 5 the body's
+-- J1: a frame's bytes: 1 to 3 are the frame's refusals, 4 and 5 the body's
 abbrev pub frameAnswer : frame-answer.FrameAnswer → Answer record-of.Reading
 frameAnswer (frame-answer.the-variants.Read r) = accepted (paperRecord r)
 frameAnswer (frame-answer.the-variants.Frame x) = refused (framing.number x) (framing.values x)

@@ -1,20 +1,20 @@
--- What a type and a body read as: document 01's records, texts and groups. The promises of this crate cite these definitions.
+-- What a type and a body read as: records, texts and groups. The promises of this crate cite these definitions.
 -- Assumes nothing.
-use Prim.Native.Nat.{ℕ, _+_}
+use Prim.Native.Nat.{ℕ}
 use mathlib.Core.Bool.{Bool, true, false, cond}
 use mathlib.Core.List.{List, []}
-use lib.Dec.{eqb, leb}
+use lib.Dec.{leb}
 use lib.IntN.{ℤ}
 use lib.ListN.{length}
 use Rattle.wire.specs.Answer.{Answer, accepted, refused}
 use Rattle.wire.specs.Bytes.{part}
 use Rattle.frame.specs.Framing.{headerWidth, bodyLimit, framing, bodyOf}
 use Rattle.frame.specs.declared.Frame.{Frame}
-use Rattle.layout.specs.Layout.{Message, fields, Group, Behind, nothing, groups, entries, behind, Listed, listed, unlisted, named, values, texts}
+use Rattle.layout.specs.Layout.{Message, fields, Behind, nothing, groups, entries, behind, Listed, listed, unlisted, named, values, texts}
 use Rattle.layout.specs.Group.{start, count, counted, place, group, judged}
-use Rattle.record.specs.Asked.{Told, told, onceAccepted, Asked, found, noSuchEntry, below, judging}
+use Rattle.record.specs.Asked.{Told, told, onceAccepted, Asked, found, noSuchEntry, below}
 
--- a listed type with the numbers of its fixed fields, in the layout's order; or unknown, with its type
+-- L6, L8: a listed type with the numbers of its fixed fields, in the layout's order; or unknown, with its type
 pub data Reading : Type 0 where
   known : Message → List ℤ → Reading
   unknown : ℕ → Reading
@@ -27,24 +27,25 @@ numbersAs m s = known m (values (fields m) s 0)
 unfoldable pub had : Message → List ℕ → List ℕ
 had m s = cond (leb (start m) (length s)) s []
 
--- the body of a listed type
+-- L8, J2: the body of a listed type
 unfoldable pub readAs : Message → List ℕ → Told Reading
 readAs m s = onceAccepted (judged m s) (numbersAs m s) (texts (fields m) s 0)
 
--- "An unlisted type is not refused: it is answered as unknown, with type and body"
+-- L6: an unlisted type is unknown, whatever its body
 abbrev pub readListed : Listed → ℕ → List ℕ → Told Reading
 readListed (listed m) type s = readAs m s
 readListed unlisted type s = told (accepted (unknown type)) []
 
--- "The type number alone chooses the layout"
+-- L6: the type's number alone chooses
 unfoldable pub reading : ℕ → List ℕ → Told Reading
 reading type s = readListed (named type) type s
 
--- the bytes of a frame: "the slice from place 8 to 8+L goes on to the record reader"; a refused frame has none
+-- F6, J1: the bytes of a frame: its body goes on to the reader of bodies; a refused frame has none
 abbrev pub frameRead : Answer Frame → List ℕ → Told Reading
 frameRead (accepted f) s = reading (f .kind) (bodyOf headerWidth (accepted f) s)
 frameRead (refused n vs) s = told (refused n vs) []
 
+-- J1: 1 to 3 of the frame, then 4 and 5 of its body
 unfoldable pub frameReading : List ℕ → Told Reading
 frameReading s = frameRead (framing headerWidth bodyLimit s) s
 
@@ -55,19 +56,20 @@ isListed unlisted = false
 
 -- ---- groups
 
--- group i: the numbers of its fields; its texts go with the answer
+-- A1, A3: group i: the numbers of its fields; its texts go with the answer
 abbrev pub groupIn : Behind → ℕ → List ℕ → ℕ → Asked (List ℤ)
 groupIn nothing end s i = noSuchEntry
 groupIn (groups g) end s i = below i (counted (groups g) end s) (values (g .fields) s (place g s end i))
 groupIn (entries e) end s i = noSuchEntry
 
+-- A3: the texts of group i, if there is one
 abbrev pub groupTexts : Behind → ℕ → List ℕ → ℕ → Asked (List ℤ) → List ℕ
 groupTexts nothing end s i a = []
 groupTexts (groups g) end s i (found vs) = texts (g .fields) s (place g s end i)
 groupTexts (groups g) end s i noSuchEntry = []
 groupTexts (entries e) end s i a = []
 
--- "asked for by position from 0 (a type without them, or an unknown type, has count 0)", after 4 and 5
+-- A2: group i of a body that is judged first
 unfoldable pub groupAs : Message → List ℕ → ℕ → Told (Asked (List ℤ))
 groupAs m s i =
     onceAccepted (judged m s) (groupIn (behind m) (start m) s i)
@@ -77,10 +79,11 @@ abbrev pub groupListed : Listed → List ℕ → ℕ → Told (Asked (List ℤ))
 groupListed (listed m) s i = groupAs m s i
 groupListed unlisted s i = told (accepted noSuchEntry) []
 
+-- A2: the same by the type's number
 unfoldable pub groupAsked : ℕ → List ℕ → ℕ → Told (Asked (List ℤ))
 groupAsked type s i = groupListed (named type) s i
 
--- the groups of an accepted body as a part of it, without the tail
+-- A7: the groups of an accepted body as a part of it, without the tail
 abbrev pub partAccepted : Answer Unit → Message → List ℕ → List ℕ
 partAccepted (accepted u) m s = part (start m) (place (group m) s (start m) (count m s)) s
 partAccepted (refused n vs) m s = []
@@ -92,5 +95,6 @@ abbrev pub groupsListed : Listed → List ℕ → List ℕ
 groupsListed (listed m) s = groupsAs m s
 groupsListed unlisted s = []
 
+-- A7: the same by the type's number
 unfoldable pub groupsPart : ℕ → List ℕ → List ℕ
 groupsPart type s = groupsListed (named type) s

@@ -24,7 +24,7 @@ pub struct FrameReading {
     pub texts: Texts,
 }
 
-// The record of the frame that the bytes begin with: the part from place 8 to 8+L goes on to the record reader.
+// The record of the frame that the bytes begin with: the body, behind the header, goes on to the record reader.
 pub fn read_frame(s: &[u8]) -> FrameReading
     ensures { λ r. ⌜ paperFrame r ≡ frameReading (now (s .entry)) ⌝ }
 {

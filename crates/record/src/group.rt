@@ -6,6 +6,7 @@ ghost use Prim.Native.Nat.{_-_, _≤_};
 ghost use lib.ListN.{length};
 ghost use Rattle.wire.specs.Answer.{accepted, refused};
 ghost use Rattle.wire.specs.Bytes.{beAt, part};
+ghost use Rattle.layout.specs.Kind as kind;
 ghost use Rattle.layout.specs.Group.{fit, place};
 ghost use Rattle.layout.specs.Paper as layout_paper;
 ghost use Rattle.record.specs.Asked.{told, noSuchEntry};
@@ -22,6 +23,11 @@ use crate::texts::no_texts;
 use layout::Groups;
 use layout::Refusal;
 use layout::Verdict;
+use layout::index;
+use layout::security_status;
+use layout::snapshot;
+use layout::statistics;
+use layout::width;
 
 // Group i of a 390090 or a 390013.
 pub enum GroupAnswer {
@@ -69,12 +75,12 @@ pub fn group_of(kind: u32, body: &[u8], i: u32) -> GroupReading
     }
 }
 
-// The groups behind the first end bytes, as many as the last four of these say, all of which are there.
+// The groups behind the first end bytes, as many as the last of their fields says, all of which are there.
 fn behind(g: Groups, body: &[u8], end: usize) -> &[u8]
-    requires { ⌜ ((4 ≤ end) × (end ≤ length (now body))) × (fit (layout_paper.meant g) (now body) end (beAt (now body) (end - 4) 4) ≡ true) ⌝ }
-    ensures { λ r. ⌜ now r ≡ part end (place (layout_paper.meant g) (now (body .entry)) end (beAt (now (body .entry)) (end - 4) 4)) (now (body .entry)) ⌝ }
+    requires { ⌜ ((kind.width kind.groupCount ≤ end) × (end ≤ length (now body))) × (fit (layout_paper.meant g) (now body) end (beAt (now body) (end - kind.width kind.groupCount) (kind.width kind.groupCount)) ≡ true) ⌝ }
+    ensures { λ r. ⌜ now r ≡ part end (place (layout_paper.meant g) (now (body .entry)) end (beAt (now (body .entry)) (end - kind.width kind.groupCount) (kind.width kind.groupCount))) (now (body .entry)) ⌝ }
 {
-    let e = layout::place(g, body, end, wire::be4(body, end - 4));
+    let e = layout::place(g, body, end, wire::be4(body, end - width::COUNT));
     &body[end..e]
 }
 
@@ -84,10 +90,10 @@ pub fn groups_of(kind: u32, body: &[u8]) -> &[u8]
 {
     match judge(kind, body) {
         Verdict::Accepted => match kind {
-            Record::STATISTICS => behind(Groups::Streams, body, 14),
-            Record::SECURITY_STATUS => behind(Groups::Switches, body, 34),
-            Record::SNAPSHOT => behind(Groups::SnapshotEntries, body, 69),
-            Record::INDEX => behind(Groups::IndexEntries, body, 69),
+            Record::STATISTICS => behind(Groups::Streams, body, statistics::SIZE),
+            Record::SECURITY_STATUS => behind(Groups::Switches, body, security_status::SIZE),
+            Record::SNAPSHOT => behind(Groups::SnapshotEntries, body, snapshot::SIZE),
+            Record::INDEX => behind(Groups::IndexEntries, body, index::SIZE),
             _ => &body[0..0],
         },
         Verdict::Refused(_) => &body[0..0],

@@ -11,7 +11,7 @@ use crate::Record;
 use crate::texts::no_texts;
 use layout::Verdict;
 
-pub(crate) fn judge(body: &[u8]) -> Verdict
+pub fn judge_heartbeat(body: &[u8]) -> Verdict
     ensures { λ r. ⌜ layout_paper.paper r ≡ judged of.heartbeat (now (body .entry)) ⌝ }
 {
     Verdict::Accepted

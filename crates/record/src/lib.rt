@@ -26,6 +26,8 @@ mod volume_index;
 
 pub use channel_heartbeat::ChannelHeartbeat;
 pub use channel_heartbeat::channel_heartbeat_of;
+pub use channel_heartbeat::channel_heartbeat_texts;
+pub use channel_heartbeat::judge_channel_heartbeat;
 pub use common::Common;
 pub use framed::FrameAnswer;
 pub use framed::FrameReading;
@@ -34,8 +36,11 @@ pub use group::GroupAnswer;
 pub use group::GroupReading;
 pub use group::group_of;
 pub use group::groups_of;
+pub use heartbeat::judge_heartbeat;
 pub use index::Index;
 pub use index::index_of;
+pub use index::index_texts;
+pub use index::judge_index;
 pub use layout::Refusal;
 use layout::Verdict;
 pub use order::Order;
@@ -43,15 +48,23 @@ pub use order::judge_order;
 pub use order::order_of;
 pub use order::order_texts;
 pub use resend::Resend;
+pub use resend::judge_resend;
 pub use resend::resend_of;
+pub use resend::resend_texts;
 pub use security_status::SecurityStatus;
 pub use security_status::Switch;
+pub use security_status::judge_security_status;
 pub use security_status::security_status_of;
+pub use security_status::security_status_texts;
 pub use snapshot::Snapshot;
+pub use snapshot::judge_snapshot;
 pub use snapshot::snapshot_of;
+pub use snapshot::snapshot_texts;
 pub use statistics::Statistics;
 pub use statistics::Stream;
+pub use statistics::judge_statistics;
 pub use statistics::statistics_of;
+pub use statistics::statistics_texts;
 pub use texts::Texts;
 use texts::no_texts;
 pub use trade::Trade;
@@ -59,7 +72,9 @@ pub use trade::judge_trade;
 pub use trade::trade_of;
 pub use trade::trade_texts;
 pub use volume_index::VolumeIndex;
+pub use volume_index::judge_volume_index;
 pub use volume_index::volume_index_of;
+pub use volume_index::volume_index_texts;
 
 pub enum Record {
     Heartbeat,
@@ -151,16 +166,16 @@ pub fn judge(kind: u32, body: &[u8]) -> Verdict
     ensures { λ r. ⌜ layout_paper.paper r ≡ judging kind (now (body .entry)) ⌝ }
 {
     match kind {
-        Record::HEARTBEAT => heartbeat::judge(body),
-        Record::CHANNEL_HEARTBEAT => channel_heartbeat::judge(body),
-        Record::RESEND => resend::judge(body),
-        Record::STATISTICS => statistics::judge(body),
-        Record::SECURITY_STATUS => security_status::judge(body),
-        Record::SNAPSHOT => snapshot::judge(body),
-        Record::INDEX => index::judge(body),
-        Record::VOLUME_INDEX => volume_index::judge(body),
-        Record::ORDER => order::judge_order(body),
-        Record::TRADE => trade::judge_trade(body),
+        Record::HEARTBEAT => judge_heartbeat(body),
+        Record::CHANNEL_HEARTBEAT => judge_channel_heartbeat(body),
+        Record::RESEND => judge_resend(body),
+        Record::STATISTICS => judge_statistics(body),
+        Record::SECURITY_STATUS => judge_security_status(body),
+        Record::SNAPSHOT => judge_snapshot(body),
+        Record::INDEX => judge_index(body),
+        Record::VOLUME_INDEX => judge_volume_index(body),
+        Record::ORDER => judge_order(body),
+        Record::TRADE => judge_trade(body),
         _ => Verdict::Accepted,
     }
 }

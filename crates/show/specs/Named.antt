@@ -1,4 +1,4 @@
--- A text by its name.
+-- A text by its name (L9).
 -- Assumes nothing.
 use Prim.Native.Nat.{ℕ}
 use mathlib.Core.List.{List, []}
@@ -16,15 +16,16 @@ meant code-text.the-variants.FinancialStatus = financialStatus
 meant code-text.the-variants.NewsId = newsId
 meant code-text.the-variants.RejectText = rejectText
 
--- out of the texts of a record, and out of those of a group
-
+-- L9: a text by its name, out of the texts of a record
 abbrev pub textListed : Listed → Text → List ℕ → List ℕ
 textListed (listed m) t ts = textIn t (fields m) ts
 textListed unlisted t ts = []
 
+-- L9: the same by the type's number
 unfoldable pub textNamed : ℕ → Text → List ℕ → List ℕ
 textNamed type t ts = textListed (named type) t ts
 
+-- L9: a text by its name, out of the texts of a group
 abbrev pub groupText : Behind → Text → List ℕ → List ℕ
 groupText nothing t ts = []
 groupText (groups g) t ts = textIn t (g .fields) ts
@@ -34,5 +35,6 @@ abbrev pub groupTextListed : Listed → Text → List ℕ → List ℕ
 groupTextListed (listed m) t ts = groupText (behind m) t ts
 groupTextListed unlisted t ts = []
 
+-- L9: the same by the type's number
 unfoldable pub groupTextNamed : ℕ → Text → List ℕ → List ℕ
 groupTextNamed type t ts = groupTextListed (named type) t ts

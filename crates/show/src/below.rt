@@ -7,42 +7,33 @@ use crate::words::Line;
 use crate::words::short;
 use entries::Entry;
 use entries::Says;
+use layout::TEXT_ROOM;
 use record::Record;
 
-// A group of a statistics body: stream, stock number and phase; and how many bytes it has.
-const STOCK_NUMBER_AT: usize = 3;
-
-const PHASE_AT: usize = 7;
-
-const STREAM_GROUP: usize = 15;
-
-// A group of a security status: switch type and yes/no.
-const YES_NO_AT: usize = 2;
-
-const SWITCH_GROUP: usize = 4;
-
-// An entry of a snapshot in front of its shown quantities, and one of these.
-const ENTRY: usize = 32;
-
-pub const QUANTITY: usize = 8;
+// The bytes of a shown quantity.
+pub const QUANTITY: usize = layout::width::QUANTITY;
 
 // How many bytes a group has.
 pub fn width(kind: u32) -> usize {
     if kind == Record::STATISTICS {
-        STREAM_GROUP
+        layout::stream::WIDTH
     } else {
-        SWITCH_GROUP
+        layout::switch::WIDTH
     }
 }
 
 // The texts of a group of a statistics body.
-fn texts_of(g: &[u8]) -> [u8; 24] {
-    let mut texts = [0u8; 24];
-    wire::copy(&mut texts, 0, span(g, 0, STOCK_NUMBER_AT));
+fn texts_of(g: &[u8]) -> [u8; TEXT_ROOM] {
+    let mut texts = [0u8; TEXT_ROOM];
     wire::copy(
         &mut texts,
-        STOCK_NUMBER_AT,
-        span(g, PHASE_AT, STREAM_GROUP - PHASE_AT),
+        0,
+        span(g, layout::stream::STREAM, layout::width::STREAM),
+    );
+    wire::copy(
+        &mut texts,
+        layout::width::STREAM,
+        span(g, layout::stream::PHASE, layout::width::PHASE),
     );
     texts
 }
@@ -51,7 +42,7 @@ fn texts_of(g: &[u8]) -> [u8; 24] {
 pub fn group(kind: u32, g: &[u8], i: u32) -> Line {
     let n = i as i64;
     if kind == Record::STATISTICS {
-        let stock_number = wire::be4(g, STOCK_NUMBER_AT) as i64;
+        let stock_number = wire::be4(g, layout::stream::STOCK_NUMBER) as i64;
         return short(
             texts_of(g),
             table::STREAM,
@@ -63,14 +54,23 @@ pub fn group(kind: u32, g: &[u8], i: u32) -> Line {
             0,
         );
     }
-    let switch_type = wire::be2(g, 0) as i64;
-    let yes_no = wire::be2(g, YES_NO_AT) as i64;
-    short([0u8; 24], table::SWITCH, n, switch_type, yes_no, 0, 0, 0)
+    let switch_type = wire::be2(g, layout::switch::SWITCH_TYPE) as i64;
+    let yes_no = wire::be2(g, layout::switch::YES_NO) as i64;
+    short(
+        [0u8; TEXT_ROOM],
+        table::SWITCH,
+        n,
+        switch_type,
+        yes_no,
+        0,
+        0,
+        0,
+    )
 }
 
 // The line of entry i.
 pub fn entry(i: u32, e: Entry) -> Line {
-    let none = [0u8; 24];
+    let none = [0u8; TEXT_ROOM];
     let i = i as i64;
     let t = e.characters as i64;
     let says = e.says;
@@ -131,13 +131,22 @@ pub fn behind(kind: u32, from: usize, to: usize) -> usize {
     if to < from {
         return to;
     }
-    if to - from < ENTRY {
+    if to - from < layout::entry::WIDTH {
         return to;
     }
-    from + ENTRY
+    from + layout::entry::WIDTH
 }
 
 // A shown quantity that stands at a place, with the number of its line.
 pub fn quantity(body: &[u8], at: usize, number: u64) -> Line {
-    short([0u8; 24], number, wire::i64_at(body, at), 0, 0, 0, 0, 0)
+    short(
+        [0u8; TEXT_ROOM],
+        number,
+        wire::i64_at(body, at),
+        0,
+        0,
+        0,
+        0,
+        0,
+    )
 }

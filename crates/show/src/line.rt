@@ -1,4 +1,4 @@
-// A line for each record: the frame's offset, its name, and its fields in the order of document 01's table.
+// A line for each record: the frame's offset, its name, and its fields in its layout's order.
 use crate::field;
 use crate::table;
 use crate::words::Line;
@@ -151,7 +151,7 @@ fn refused(kind: u32) -> u64 {
     }
 }
 
-// The paper's number of a refusal.
+// A refusal's number.
 fn number_of(why: Refusal) -> i64 {
     match why {
         Refusal::NotItsLayout => 4,

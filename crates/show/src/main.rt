@@ -14,6 +14,7 @@ use entries::Cursor;
 use entries::Step;
 use frame::Frame;
 use frame::Framed;
+use layout::TEXT_ROOM;
 use record::Record;
 use window::Held;
 use words::Line;
@@ -274,10 +275,10 @@ fn last(place: Place) -> Line {
     let offset = wire::signed(place.offset);
     let frames = wire::signed(place.frames);
     if place.refused == 0 {
-        return words::short([0u8; 24], table::END, offset, frames, 0, 0, 0, 0);
+        return words::short([0u8; TEXT_ROOM], table::END, offset, frames, 0, 0, 0, 0);
     }
     words::short(
-        [0u8; 24],
+        [0u8; TEXT_ROOM],
         table::REFUSED,
         offset,
         place.refused as i64,

@@ -3,7 +3,23 @@ ghost use mathlib.Core.Path.{_≡_};
 ghost use lib.ListN.{take, drop};
 ghost use Rattle.layout.specs.Layout.{fields, order, snapshot, securityStatus, resend, streams, textIn};
 ghost use Rattle.show.specs.Named.{meant, textNamed, groupTextNamed};
+use layout::width;
 use record::Record;
+
+// Where a text stands among those of an order, a trade or a common part; of a security status; of a resend; of a group.
+const SECURITY: usize = width::STREAM;
+
+const SOURCE: usize = SECURITY + width::SECURITY;
+
+const PHASE: usize = SOURCE + width::SOURCE;
+
+const STATUS_SOURCE: usize = width::SECURITY;
+
+const FINANCIAL_STATUS: usize = STATUS_SOURCE + width::SOURCE;
+
+const REJECT_TEXT: usize = width::NEWS_ID;
+
+const GROUP_PHASE: usize = width::STREAM;
 
 // The texts by name.
 pub enum Text {
@@ -36,9 +52,9 @@ fn order_text(which: Text, texts: &[u8]) -> &[u8]
     ensures { λ r. ⌜ now r ≡ textIn (meant which) (fields order) (now (texts .entry)) ⌝ }
 {
     match which {
-        Text::Stream => span(texts, 0, 3),
-        Text::Security => span(texts, 3, 8),
-        Text::Source => span(texts, 11, 4),
+        Text::Stream => span(texts, 0, width::STREAM),
+        Text::Security => span(texts, SECURITY, width::SECURITY),
+        Text::Source => span(texts, SOURCE, width::SOURCE),
         Text::Phase => &texts[0..0],
         Text::FinancialStatus => &texts[0..0],
         Text::NewsId => &texts[0..0],
@@ -51,10 +67,10 @@ fn common_text(which: Text, texts: &[u8]) -> &[u8]
     ensures { λ r. ⌜ now r ≡ textIn (meant which) (fields snapshot) (now (texts .entry)) ⌝ }
 {
     match which {
-        Text::Stream => span(texts, 0, 3),
-        Text::Security => span(texts, 3, 8),
-        Text::Source => span(texts, 11, 4),
-        Text::Phase => span(texts, 15, 8),
+        Text::Stream => span(texts, 0, width::STREAM),
+        Text::Security => span(texts, SECURITY, width::SECURITY),
+        Text::Source => span(texts, SOURCE, width::SOURCE),
+        Text::Phase => span(texts, PHASE, width::PHASE),
         Text::FinancialStatus => &texts[0..0],
         Text::NewsId => &texts[0..0],
         Text::RejectText => &texts[0..0],
@@ -67,10 +83,10 @@ fn status_text(which: Text, texts: &[u8]) -> &[u8]
 {
     match which {
         Text::Stream => &texts[0..0],
-        Text::Security => span(texts, 0, 8),
-        Text::Source => span(texts, 8, 4),
+        Text::Security => span(texts, 0, width::SECURITY),
+        Text::Source => span(texts, STATUS_SOURCE, width::SOURCE),
         Text::Phase => &texts[0..0],
-        Text::FinancialStatus => span(texts, 12, 8),
+        Text::FinancialStatus => span(texts, FINANCIAL_STATUS, width::FINANCIAL_STATUS),
         Text::NewsId => &texts[0..0],
         Text::RejectText => &texts[0..0],
     }
@@ -86,8 +102,8 @@ fn resend_text(which: Text, texts: &[u8]) -> &[u8]
         Text::Source => &texts[0..0],
         Text::Phase => &texts[0..0],
         Text::FinancialStatus => &texts[0..0],
-        Text::NewsId => span(texts, 0, 8),
-        Text::RejectText => span(texts, 8, 16),
+        Text::NewsId => span(texts, 0, width::NEWS_ID),
+        Text::RejectText => span(texts, REJECT_TEXT, width::REJECT_TEXT),
     }
 }
 
@@ -96,10 +112,10 @@ fn stream_text(which: Text, texts: &[u8]) -> &[u8]
     ensures { λ r. ⌜ now r ≡ textIn (meant which) (streams .fields) (now (texts .entry)) ⌝ }
 {
     match which {
-        Text::Stream => span(texts, 0, 3),
+        Text::Stream => span(texts, 0, width::STREAM),
         Text::Security => &texts[0..0],
         Text::Source => &texts[0..0],
-        Text::Phase => span(texts, 3, 8),
+        Text::Phase => span(texts, GROUP_PHASE, width::PHASE),
         Text::FinancialStatus => &texts[0..0],
         Text::NewsId => &texts[0..0],
         Text::RejectText => &texts[0..0],

@@ -2,15 +2,16 @@
 ghost use Prim.Native.Nat.{_≤_};
 ghost use lib.ListN.{length};
 use crate::field;
+use layout::TEXT_ROOM;
 
 // A line by its number in the table, its fields, and the texts that they name. Line 0 is empty.
 pub struct Line {
     pub number: u64,
     pub fields: [i64; 12],
-    pub texts: [u8; 24],
+    pub texts: [u8; TEXT_ROOM],
 }
 
-pub fn full(texts: [u8; 24], number: u64, fields: [i64; 12]) -> Line {
+pub fn full(texts: [u8; TEXT_ROOM], number: u64, fields: [i64; 12]) -> Line {
     Line {
         number,
         fields,
@@ -19,7 +20,16 @@ pub fn full(texts: [u8; 24], number: u64, fields: [i64; 12]) -> Line {
 }
 
 // A line of at most six fields.
-pub fn short(texts: [u8; 24], number: u64, a: i64, b: i64, c: i64, d: i64, e: i64, f: i64) -> Line {
+pub fn short(
+    texts: [u8; TEXT_ROOM],
+    number: u64,
+    a: i64,
+    b: i64,
+    c: i64,
+    d: i64,
+    e: i64,
+    f: i64,
+) -> Line {
     full(texts, number, [a, b, c, d, e, f, 0, 0, 0, 0, 0, 0])
 }
 

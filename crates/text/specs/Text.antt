@@ -15,10 +15,10 @@ unfoldable pub decimals : ℕ → ℕ → List ℕ
 decimals zero v = glyph v ∷ []
 decimals (suc k) v = cond (leb v 9) (glyph v ∷ []) (decimals k (v / 10) ++ (glyph (v % 10) ∷ []))
 
--- a number of 64 bits in decimal: it has at most 20 digits
+-- O1: a number of 64 bits in decimal: it has at most 20 digits
 abbrev pub decimalOf : ℕ → List ℕ
 decimalOf v = decimals 19 v
 
--- the place behind some bytes at a place of the output where they fit; else that place
+-- O1: the offset behind some bytes at an offset of the output where they fit; else that offset
 unfoldable pub next : List ℕ → ℕ → List ℕ → ℕ
 next out at bs = cond (leb (at + length bs) (length out)) (at + length bs) at

@@ -15,11 +15,11 @@ use Rattle.wire.specs.Refusal.{outputShort}
 use Rattle.frame.specs.Framing.{bodyLimit}
 use Rattle.layout.specs.Kind.{firstNumber, lastNumber, resendType, status, ranged}
 use Rattle.layout.specs.Layout.{resend, fields, size}
-use Rattle.layout.specs.Group.{fit, place, groupRanges}
+use Rattle.layout.specs.Group.{fit, place, groupRanges, even}
 use Rattle.layout.proofs.Free.{free-channel, free-text, firstNumber-as}
 use Rattle.layout.proofs.Ranges.{at-least-0}
 use Rattle.record.specs.Record.{Reading, known}
-use Rattle.bodies.specs.Body.{bodyLength, textSize, even, exact, numbersIn, allIn}
+use Rattle.bodies.specs.Body.{bodyLength, textSize, exact, numbersIn, allIn}
 use Rattle.writer.specs.Write as writer
 use Rattle.gaps.specs.declared.Run.{Run}
 use Rattle.gaps.specs.Limits.{mostNumber}

@@ -1,4 +1,4 @@
--- "Each arrival takes the tracker and gives back the next one": the refusals in their order, then the channel's step.
+-- What an arrival does to a tracker: the refusals in their order, then the channel's step.
 use Prim.Native.Nat.{ℕ, zero, suc}
 use mathlib.Core.List.{List, []}
 use mathlib.Core.Bool.{cond, not}
@@ -15,7 +15,7 @@ use Rattle.tracker.specs.declared.Reply.{Reply}
 use Rattle.tracker.specs.Places.{channel, put}
 use Rattle.tracker.specs.Rules.{wellFormed}
 
--- an arrival: the channel that it came on, and what came
+-- T5: an arrival: the channel that it came on, and what came
 pub record Arrival : Type 0 where
   pub channel : ℕ
   pub event : Event
@@ -24,21 +24,21 @@ pub record Arrival : Type 0 where
 abbrev pub on : ℕ → Event → Arrival
 on k e = record { channel = k; event = e }
 
--- the place of channel k; the count of channels where it is "not in the tracker"
+-- R7: the place of channel k; the count of channels where the tracker does not hold it
 unfoldable pub place : Tracker → ℕ → ℕ
 place t k = placeFrom (t .numbers) k 0 (t .count)
 
--- what an arrival is answered, and the next tracker
+-- T5: what an arrival is answered, and the next tracker
 pub record Outcome : Type 0 where
   pub said : Answer Said
   pub next : Tracker
 
--- the step's record goes to place i; "a refusal [..] changes no tracker"
+-- T5, J6: the step's record goes to place i; a refusal leaves the tracker as it stood
 abbrev pub settled : Tracker → ℕ → Answer Step → Outcome
 settled t i (accepted s) = record { said = accepted (s .said); next = put t i (s .next) }
 settled t i (refused n v) = record { said = refused n v; next = t }
 
--- "A malformed tracker, 10, comes before all others"; "Arrival: 7, 8, 9"
+-- J4: 10, then 7, then what the channel judges
 unfoldable pub arrived : Tracker → Arrival → Outcome
 arrived t a =
     settled t (place t (a .channel))
@@ -46,7 +46,7 @@ arrived t a =
     (guard (not (ltb (place t (a .channel)) (t .count))) (refused noSuchChannel [])
     (judged (channel t (place t (a .channel))) (a .event))))
 
--- the paper's number and values for each case of the code's verdict
+-- the number and values for each case of the code's verdict
 abbrev pub saidOf : Verdict → Answer Said
 saidOf New = accepted new
 saidOf Late = accepted late
@@ -57,10 +57,10 @@ saidOf NumberTooLow = refused numberTooLow []
 saidOf TableFull = refused tableFull []
 saidOf Malformed = refused malformed []
 
--- what an answer says on paper, with the next tracker
+-- what a verdict says, with the next tracker
 abbrev pub answered : Verdict → Tracker → Outcome
 answered v t = record { said = saidOf v; next = t }
 
--- what a reply says on paper
+-- what a reply says
 abbrev pub paper : Reply → Outcome
 paper r = answered (r .verdict) (r .next)

@@ -1,4 +1,4 @@
--- The first run of a channel, which a request asks for (document 01, "Tracker").
+-- The first run of a channel, which a request asks for.
 use Prim.Native.Nat.{ℕ}
 use mathlib.Core.List.{List, [], _∷_}
 use mathlib.Core.Bool.{not}
@@ -11,7 +11,7 @@ use Rattle.tracker.specs.Places.{channel}
 use Rattle.tracker.specs.Rules.{wellFormed}
 use Rattle.tracker.specs.Arrived.{place}
 
--- "the first run"; "No run: nothing missing"
+-- Q1, Q3, J8: a run to ask for, or nothing missing
 pub data Lost : Type 0 where
   lost : Run → Lost
   nothingMissing : Lost
@@ -21,7 +21,7 @@ abbrev pub foremost : List Run → Lost
 foremost [] = nothingMissing
 foremost (r ∷ l) = lost r
 
--- "A malformed tracker, 10, comes before all others"; "Request: 7, nothing missing"
+-- J5: 10, then 7, then the first run, if any
 unfoldable pub firstRun : Tracker → ℕ → Answer Lost
 firstRun t k =
     guard (not (wellFormed t)) (refused malformed [])

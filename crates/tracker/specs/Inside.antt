@@ -36,7 +36,7 @@ made count numbers highest ended counts first last =
       last = last;
     }
 
--- the channel at place i keeps the rules
+-- T2, T3: the channel at place i keeps the rules
 pub record Kept (t : Tracker) (i : ℕ) : Type 0 where
   pub place : i < channelLimit
   pub mark : getD (t .ended) i 0 ≤ 1
@@ -47,14 +47,14 @@ abbrev pub Judges : Tracker → ℕ → Bool → Judged → Type 0
 Judges t k low (Refused v) = (e : Event) → tooLow e ≡ low → arrived t (on k e) ≡ record { said = saidOf v; next = t }
 Judges t k low (At i) = (low ≡ false) × Kept t i × ((e : Event) → arrived t (on k e) ≡ settled t i (judged (channel t i) e))
 
--- 9 where these runs are more than 32, else this answer and the record with them
+-- R9: 9 where these runs are too many, else this answer and the record with them
 unfoldable pub stored : Tracker → ℕ → Answer Said → ℕ → Bool → List Run → Outcome
 stored t i a highest ended runs =
     cond (ltb runLimit (length runs))
     (record { said = refused tableFull []; next = t })
     (record { said = a; next = put t i (record { highest = highest; ended = ended; runs = runs }) })
 
--- the paper's number and values for each case of the first run's answer
+-- the number and values for each case of the first run's answer
 abbrev pub lostOf : Wanted → Answer Lost
 lostOf (wanted.First r) = accepted (lost r)
 lostOf wanted.NothingMissing = accepted nothingMissing

@@ -1,4 +1,4 @@
--- The tracker's arrays of numbers, and one channel's record in them (document 01, "Tracker").
+-- The tracker's arrays of numbers, and one channel's record in them.
 use Prim.Native.Nat.{ℕ, zero, suc, _*_}
 use mathlib.Core.List.{List, [], _∷_}
 use mathlib.Core.Bool.{Bool, cond}
@@ -13,11 +13,11 @@ use Rattle.gaps.specs.Built.{firsts, lasts, padded}
 use Rattle.seats.specs.Places.{span}
 use Rattle.tracker.specs.declared.Tracker.{Tracker}
 
--- "an ended mark" in its place: 1 where it is set, else 0
+-- T2: an ended mark in its place: 1 where it is set, else 0
 abbrev pub mark : Bool → ℕ
 mark e = cond e 1 0
 
--- the record of the channel at place i
+-- T2: the record of the channel at place i
 abbrev pub channel : Tracker → ℕ → Channel
 channel t i =
     record {
@@ -26,7 +26,7 @@ channel t i =
       runs = span (t .first) (t .last) (i * runLimit) (getD (t .counts) i 0);
     }
 
--- the tracker with this record at place i, zero in the places behind its runs; nothing else changes
+-- T4, T5: the tracker with this record at place i, zero in the places behind its runs; nothing else changes
 unfoldable pub put : Tracker → ℕ → Channel → Tracker
 put t i c =
     record {

@@ -1,4 +1,4 @@
--- Document 01, "Tracker": "A request for a channel asks for the first run, or its first 200 numbers".
+-- The request for the numbers that a channel misses first.
 -- Assumes nothing.
 use Prim.Native.Nat.{ℕ, _+_, _-_}
 use mathlib.Core.Bool.{cond}
@@ -23,33 +23,33 @@ use Rattle.tracker.specs.declared.Requested.the-variants.{Written, Nothi
 
 -- ---- which numbers it asks for
 
--- "(the batch that 001 advises)"
+-- Q1: the most numbers that one request asks for
 abbrev pub batch : ℕ
 batch = 200
 
--- "the first run, or its first 200 numbers"
+-- Q1: the run, or its first numbers where it has more than a batch
 unfoldable pub asked : Run → Run
 asked r = cond (ltb (r .last) (r .first + batch)) r (run (r .first) (r .first + batch - 1))
 
 -- ---- the frame that asks for them
 
--- "resend type 1"
+-- Q2: the resend type that asks by numbers
 abbrev pub byNumbers : ℕ
 byNumbers = 1
 
--- "status 0"
+-- Q2: the status of a frame that asks
 abbrev pub noStatus : ℕ
 noStatus = 0
 
--- the character "space"
+-- Q2: the character of empty texts
 abbrev pub space : ℕ
 space = 0x20
 
--- "news id and text all spaces"
+-- Q2: news id and reject text, empty
 abbrev pub spaces : List ℕ
 spaces = replicate (characters newsId + characters rejectText) space
 
--- the numbers of the frame's fields, in its layout's order
+-- Q2: the numbers of the frame's fields, in its layout's order
 abbrev pub numbersFor : ℕ → Run → List ℤ
 numbersFor k r = pos byNumbers ∷ pos k ∷ pos (r .first) ∷ pos (r .last) ∷ pos noStatus ∷ []
 
@@ -57,28 +57,28 @@ numbersFor k r = pos byNumbers ∷ pos k ∷ pos (r .first) ∷ pos (r .last) �
 abbrev pub resendOf : ℕ → Run → Reading
 resendOf k r = known resend (numbersFor k r)
 
--- "a 390094 frame" that asks for the numbers r of channel k
+-- Q2: the frame that asks for the numbers r of channel k
 abbrev pub requestFrame : ℕ → Run → List ℕ
 requestFrame k r = frameOf (typeNumber resend) (body resend (numbersFor k r) spaces [])
 
--- 12+L, with the L of 390094
+-- Q2: how many bytes it has
 abbrev pub requestLength : ℕ
 requestLength = frameLength (bodyLength resend [])
 
 -- ---- the refusals in their order
 
--- "nothing missing, 6": the numbers to ask for, for an output of room bytes
+-- R6: the numbers to ask for, for an output of room bytes
 abbrev pub fitting : ℕ → Lost → Answer Lost
 fitting room (lost r) = guard (ltb room requestLength) (refused outputShort []) (accepted (lost (asked r)))
 fitting room nothingMissing = accepted nothingMissing
 
--- "Request: 7, nothing missing, 6", behind 10
+-- J5: 10, 7, nothing missing, 6
 unfoldable pub judging : Tracker → ℕ → ℕ → Answer Lost
 judging t k room = andThen (firstRun t k) (fitting room)
 
 -- ---- what is answered, and what the output holds then
 
--- how many bytes were written, or "nothing missing"
+-- Q3, J8: how many bytes were written, or nothing missing
 pub data Said : Type 0 where
   written : ℕ → Said
   nothing : Said
@@ -88,26 +88,26 @@ abbrev pub said : Lost → Said
 said (lost r) = written requestLength
 said nothingMissing = nothing
 
--- a refusal returns its number
+-- J6: a refusal is its number
 abbrev pub answerOf : Answer Lost → Answer Said
 answerOf (accepted x) = accepted (said x)
 answerOf (refused n vs) = refused n vs
 
--- exactly the bytes of the frame change; "nothing missing, nothing written"; a refusal "changes no output"
+-- W2, Q3, J6: exactly the bytes of the frame change; nothing does where nothing is missing, nor on a refusal
 abbrev pub outputOf : Answer Lost → ℕ → List ℕ → List ℕ
 outputOf (accepted (lost r)) k out = splice out 0 (requestFrame k r)
 outputOf (accepted nothingMissing) k out = out
 outputOf (refused n vs) k out = out
 
--- what a request for channel k is answered
+-- J5: what a request for channel k is answered
 unfoldable pub answering : Tracker → ℕ → List ℕ → Answer Said
 answering t k out = answerOf (judging t k (length out))
 
--- what the output holds after it
+-- Q2: what the output holds after it
 unfoldable pub leaving : Tracker → ℕ → List ℕ → List ℕ
 leaving t k out = outputOf (judging t k (length out)) k out
 
--- the paper's number and values for each case of the code's answer
+-- the number and values for each case of the code's answer
 abbrev pub paper : Requested → Answer Said
 paper (Written n) = accepted (written n)
 paper NothingMissing = accepted nothing

@@ -1,4 +1,4 @@
--- "It is set up with 1 to 8 channel numbers, strictly ascending."
+-- The set-up of a tracker with its channels.
 use Prim.Native.Nat.{ℕ, _+_}
 use mathlib.Core.List.{List, [], _∷_}
 use mathlib.Core.Bool.{Bool, true, false, not, _&&_}
@@ -27,21 +27,21 @@ blankWith count numbers =
       last = replicate placeCount 0;
     }
 
--- a tracker of these channels, "0 at first", that nothing has reached
+-- T1: a tracker of these channels that nothing has reached
 abbrev pub blankOf : List ℕ → Tracker
 blankOf numbers = blankWith (length numbers) (padded channelLimit numbers)
 
--- what the set-up answers, and the tracker that it gives
+-- T1: what the set-up answers, and the tracker that it gives
 pub record Ready : Type 0 where
   pub said : Answer Unit
   pub tracker : Tracker
 
--- "set-up refused gives the all-zero tracker, with no channel"
+-- J7: a refused set-up gives zeros, and no channel
 abbrev pub given : Answer Tracker → Ready
 given (accepted t) = record { said = accepted tt; tracker = t }
 given (refused n v) = record { said = refused n v; tracker = blankOf [] }
 
--- 10: "channel list empty, longer than 8 or not strictly ascending"
+-- T1, R10: no channel, too many, or numbers that do not ascend are refused
 unfoldable pub setUp : List ℕ → Ready
 setUp numbers =
     given
@@ -50,11 +50,11 @@ setUp numbers =
     (guard (not (ascends 0 numbers)) (refused malformed [])
     (accepted (blankOf numbers)))))
 
--- the paper's number and values for each case of the code's answer
+-- the number and values for each case of the code's answer
 abbrev pub saidOf : Start → Answer Unit
 saidOf SetUp = accepted tt
 saidOf Malformed = refused malformed []
 
--- what the set-up's answer says on paper
+-- what the set-up's answer says
 abbrev pub paper : Started → Ready
 paper r = record { said = saidOf (r .verdict); tracker = r .tracker }

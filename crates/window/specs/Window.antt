@@ -6,11 +6,11 @@ use mathlib.Core.List.{List, _++_}
 use lib.Dec.{leb}
 use lib.ListN.{length, take, drop}
 
--- there are bytes from a place up to another
+-- there are bytes from an offset up to another
 abbrev pub there : List ℕ → ℕ → ℕ → Bool
 there s from to = leb to (length s) && leb from to
 
--- the bytes from a place up to another at the front, the places behind them as they stood
+-- O1: the bytes from an offset up to another at the front, those behind them as they stood
 unfoldable pub slid : List ℕ → ℕ → ℕ → List ℕ
 slid s from to = cond (there s from to) (take (to - from) (drop from s) ++ drop (to - from) s) s
 
@@ -18,6 +18,6 @@ slid s from to = cond (there s from to) (take (to - from) (drop from s) ++ drop 
 unfoldable pub moved : List ℕ → ℕ → ℕ → ℕ
 moved s from to = cond (there s from to) (to - from) 0
 
--- what is still held of the gathered bytes: all where there is room behind them, else none
+-- O1: what is still held of the gathered bytes: all where there is room behind them, else none
 unfoldable pub kept : List ℕ → ℕ → ℕ → ℕ
 kept s gathered room = cond (leb (gathered + room) (length s)) gathered 0

@@ -1,4 +1,4 @@
--- The code's answers in this paper's terms.
+-- The code's answers in the specs' terms.
 -- Assumes nothing.
 use Prim.Native.Nat.{ℕ}
 use mathlib.Core.List.{[]}

@@ -6,14 +6,16 @@ ghost use Rattle.writer.specs.Paper.{paper};
 ghost use Rattle.writer.specs.Write.{answering, leaving};
 use crate::Written;
 use crate::judge;
-use crate::store::End;
 use crate::store::seal;
-use bodies::Size;
 use bodies::channel_heartbeat_verdict;
 use bodies::put_channel_heartbeat;
 use frame::Frame;
+use layout::channel_heartbeat;
 use record::ChannelHeartbeat;
 use record::Record;
+
+// Where its fields end in a frame.
+const END: usize = Frame::HEADER + channel_heartbeat::SIZE;
 
 // Writes the frame of a channel heartbeat, as `write` does.
 pub fn write_channel_heartbeat(
@@ -26,12 +28,12 @@ pub fn write_channel_heartbeat(
     ensures { λ w. ⌜ now (out .exit) ≡ leaving (paperRecord (variant.ChannelHeartbeat r)) (now (texts .entry)) (now (groups .entry)) (now (out .entry)) ⌝ }
 {
     let verdict = channel_heartbeat_verdict(r, texts, groups);
-    match judge(Size::CHANNEL_HEARTBEAT, verdict, groups.len(), out.len()) {
+    match judge(channel_heartbeat::SIZE, verdict, groups.len(), out.len()) {
         Written::Whole(n) => {
-            put_channel_heartbeat(r, texts, &mut out[Frame::HEADER..End::CHANNEL_HEARTBEAT]);
+            put_channel_heartbeat(r, texts, &mut out[Frame::HEADER..END]);
             seal(
                 Record::CHANNEL_HEARTBEAT,
-                Size::CHANNEL_HEARTBEAT,
+                channel_heartbeat::SIZE,
                 groups,
                 out,
             );

@@ -7,8 +7,8 @@ ghost use Rattle.writer.specs.Write.{answering, leaving};
 use crate::Written;
 use crate::judge;
 use crate::store::seal;
-use bodies::Size;
 use bodies::heartbeat_verdict;
+use layout::heartbeat;
 use record::Record;
 
 // Writes the frame of a heartbeat, as `write` does.
@@ -17,9 +17,9 @@ pub fn write_heartbeat(texts: &[u8], groups: &[u8], out: &mut [u8]) -> Written
     ensures { λ w. ⌜ now (out .exit) ≡ leaving (paperRecord variant.Heartbeat) (now (texts .entry)) (now (groups .entry)) (now (out .entry)) ⌝ }
 {
     let verdict = heartbeat_verdict(texts, groups);
-    match judge(Size::HEARTBEAT, verdict, groups.len(), out.len()) {
+    match judge(heartbeat::SIZE, verdict, groups.len(), out.len()) {
         Written::Whole(n) => {
-            seal(Record::HEARTBEAT, Size::HEARTBEAT, groups, out);
+            seal(Record::HEARTBEAT, heartbeat::SIZE, groups, out);
             Written::Whole(n)
         }
         Written::Refused(x) => Written::Refused(x),

@@ -2,6 +2,7 @@
 ghost use mathlib.Core.Path.{_≡_};
 ghost use Prim.Native.Nat.{_+_, _≤_};
 ghost use Rattle.wire.specs.Answer.{andThen};
+ghost use Rattle.frame.specs.Framing.{bodyLimit};
 ghost use Rattle.layout.specs.Paper as layout_paper;
 ghost use Rattle.record.specs.Paper.{paperRecord};
 ghost use Rattle.writer.specs.Paper.{paper};
@@ -49,7 +50,7 @@ pub enum Written {
 
 // A body of fields and groups for an output of room bytes: 2, then 6.
 fn fitted(size: usize, groups: usize, room: usize) -> Written
-    requires { ⌜ size ≤ 69 ⌝ }
+    requires { ⌜ size ≤ bodyLimit ⌝ }
     ensures { λ r. ⌜ paper r ≡ fitting (size + groups) room ⌝ }
 {
     if Frame::BODY_LIMIT - size < groups {
@@ -64,7 +65,7 @@ fn fitted(size: usize, groups: usize, room: usize) -> Written
 
 // The verdict on texts, groups and fields, then 2 and 6 as above.
 fn judge(size: usize, verdict: Verdict, groups: usize, room: usize) -> Written
-    requires { ⌜ size ≤ 69 ⌝ }
+    requires { ⌜ size ≤ bodyLimit ⌝ }
     ensures { λ r. ⌜ paper r ≡ andThen (layout_paper.paper verdict) (λ (u : Unit). fitting (size + groups) room) ⌝ }
 {
     match verdict {

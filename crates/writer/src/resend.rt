@@ -6,14 +6,16 @@ ghost use Rattle.writer.specs.Paper.{paper};
 ghost use Rattle.writer.specs.Write.{answering, leaving};
 use crate::Written;
 use crate::judge;
-use crate::store::End;
 use crate::store::seal;
-use bodies::Size;
 use bodies::put_resend;
 use bodies::resend_verdict;
 use frame::Frame;
+use layout::resend;
 use record::Record;
 use record::Resend;
+
+// Where its fields end in a frame.
+const END: usize = Frame::HEADER + resend::SIZE;
 
 // Writes the frame of a resend, as `write` does.
 pub fn write_resend(r: Resend, texts: &[u8], groups: &[u8], out: &mut [u8]) -> Written
@@ -21,10 +23,10 @@ pub fn write_resend(r: Resend, texts: &[u8], groups: &[u8], out: &mut [u8]) -> W
     ensures { λ w. ⌜ now (out .exit) ≡ leaving (paperRecord (variant.Resend r)) (now (texts .entry)) (now (groups .entry)) (now (out .entry)) ⌝ }
 {
     let verdict = resend_verdict(r, texts, groups);
-    match judge(Size::RESEND, verdict, groups.len(), out.len()) {
+    match judge(resend::SIZE, verdict, groups.len(), out.len()) {
         Written::Whole(n) => {
-            put_resend(r, texts, &mut out[Frame::HEADER..End::RESEND]);
-            seal(Record::RESEND, Size::RESEND, groups, out);
+            put_resend(r, texts, &mut out[Frame::HEADER..END]);
+            seal(Record::RESEND, resend::SIZE, groups, out);
             Written::Whole(n)
         }
         Written::Refused(x) => Written::Refused(x),

@@ -6,14 +6,16 @@ ghost use Rattle.writer.specs.Paper.{paper};
 ghost use Rattle.writer.specs.Write.{answering, leaving};
 use crate::Written;
 use crate::judge;
-use crate::store::End;
 use crate::store::seal;
-use bodies::Size;
 use bodies::put_security_status;
 use bodies::security_status_verdict;
 use frame::Frame;
+use layout::security_status;
 use record::Record;
 use record::SecurityStatus;
+
+// Where its fields end in a frame.
+const END: usize = Frame::HEADER + security_status::SIZE;
 
 // Writes the frame of a security status, as `write` does.
 pub fn write_security_status(
@@ -26,10 +28,10 @@ pub fn write_security_status(
     ensures { λ w. ⌜ now (out .exit) ≡ leaving (paperRecord (variant.SecurityStatus r)) (now (texts .entry)) (now (groups .entry)) (now (out .entry)) ⌝ }
 {
     let verdict = security_status_verdict(r, texts, groups);
-    match judge(Size::SECURITY_STATUS, verdict, groups.len(), out.len()) {
+    match judge(security_status::SIZE, verdict, groups.len(), out.len()) {
         Written::Whole(n) => {
-            put_security_status(r, texts, &mut out[Frame::HEADER..End::SECURITY_STATUS]);
-            seal(Record::SECURITY_STATUS, Size::SECURITY_STATUS, groups, out);
+            put_security_status(r, texts, &mut out[Frame::HEADER..END]);
+            seal(Record::SECURITY_STATUS, security_status::SIZE, groups, out);
             Written::Whole(n)
         }
         Written::Refused(x) => Written::Refused(x),

@@ -6,14 +6,16 @@ ghost use Rattle.writer.specs.Paper.{paper};
 ghost use Rattle.writer.specs.Write.{answering, leaving};
 use crate::Written;
 use crate::judge;
-use crate::store::End;
 use crate::store::seal;
-use bodies::Size;
 use bodies::put_trade;
 use bodies::trade_verdict;
 use frame::Frame;
+use layout::trade;
 use record::Record;
 use record::Trade;
+
+// Where its fields end in a frame.
+const END: usize = Frame::HEADER + trade::SIZE;
 
 // Writes the frame of a trade, as `write` does.
 pub fn write_trade(r: Trade, texts: &[u8], groups: &[u8], out: &mut [u8]) -> Written
@@ -21,10 +23,10 @@ pub fn write_trade(r: Trade, texts: &[u8], groups: &[u8], out: &mut [u8]) -> Wri
     ensures { λ w. ⌜ now (out .exit) ≡ leaving (paperRecord (variant.Trade r)) (now (texts .entry)) (now (groups .entry)) (now (out .entry)) ⌝ }
 {
     let verdict = trade_verdict(r, texts, groups);
-    match judge(Size::TRADE, verdict, groups.len(), out.len()) {
+    match judge(trade::SIZE, verdict, groups.len(), out.len()) {
         Written::Whole(n) => {
-            put_trade(r, texts, &mut out[Frame::HEADER..End::TRADE]);
-            seal(Record::TRADE, Size::TRADE, groups, out);
+            put_trade(r, texts, &mut out[Frame::HEADER..END]);
+            seal(Record::TRADE, trade::SIZE, groups, out);
             Written::Whole(n)
         }
         Written::Refused(x) => Written::Refused(x),

@@ -1,5 +1,5 @@
-use Prim.Native.Nat.{ℕ, _+_, _-_, _*_, _≤_, _<_}
-use mathlib.Core.Path.{_≡_, refl, sym, _∙_, ap}
+use Prim.Native.Nat.{_+_, _*_, _≤_}
+use mathlib.Core.Path.{_≡_, refl, sym, _∙_}
 use mathlib.Core.Bool.{true, _&&_}
 use native.Mathlib.Omega.{arith}
 use borrow.Author.Needs.{needs}
@@ -42,7 +42,7 @@ tests c =
     λ i. f i && (c .quantities-in .ensures ∙ (λ j. quantities (shown (c .before .before) j) s (q j))) i
 
 loop-holds : tie.Need-loop-holds Inv-loop μ-loop
-loop-holds c = (c .width .ensures .0, (c .width .ensures .1 .0, (c .before .before .pre, refl)))
+loop-holds c = (c .width .ensures .0, (c .width .ensures .1, (c .before .before .pre, refl)))
 
 add-q : tie.Need-add-q Inv-loop μ-loop
 add-q c = omega (arith, there c .fixed)

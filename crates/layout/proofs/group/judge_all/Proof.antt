@@ -1,6 +1,6 @@
 use denote.Ref.{now}
 use mathlib.Core.Path.{sym, _∙_}
-use Rattle.layout.specs.Group.{judgedAll}
+use Rattle.layout.specs.Group.{even, judgedAll}
 use Rattle.layout.specs.Paper.{meant}
 use Rattle.layout.proofs.Walk.{and-both, all-of}
 use Rattle.layout.proofs.group.judge_all.Statement.{statement}
@@ -12,7 +12,7 @@ judged-requires c κs e =
     sym (w .ensures .0) ∙ and-both (w .result .fits) _ e .0
 
 returns : tie.Need-returns
-unfolding judgedAll
+unfolding judgedAll even
 returns c =
     let w = c .before .before .before .walk in
     let a = c .before .before .before .before .before .args in

@@ -1,7 +1,6 @@
-use Prim.Native.Nat.{ℕ, _+_, _-_, _*_, _≤_, _<_}
-use mathlib.Core.Path.{_≡_, refl, sym, _∙_}
+use Prim.Native.Nat.{_+_, _*_, _≤_}
+use mathlib.Core.Path.{_≡_, refl, _∙_}
 use native.Mathlib.Omega.{arith}
-use borrow.Author.Needs.{needs}
 use lib.ListN.{length}
 use denote.Ref.{now}
 use Rattle.wire.proofs.Be.{part-length}
@@ -29,7 +28,7 @@ onward : (c : tie.After-shown Inv-loop μ-loop) → c .before .before .before .b
 onward c = let m = shown c in omega arith
 
 loop-holds : tie.Need-loop-holds Inv-loop μ-loop
-loop-holds c = (refl, (c .width .ensures .0, (c .width .ensures .1 .0, (refl, refl))))
+loop-holds c = (refl, (c .width .ensures .0, (c .width .ensures .1, (refl, refl))))
 
 shown-requires : tie.Need-shown-requires Inv-loop μ-loop
 shown-requires c κs =
