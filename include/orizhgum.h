@@ -7,9 +7,9 @@
  * Calls are reentrant: there is no state but what the host lends, and no heap. Threads may call at the same time, as long as
  * none writes what another reads or writes.
  *
- * The stack that a call takes, at most, in bytes, above what an empty function takes:
- * - frames, records, groups, entries, the writer: 1,000;
- * - the tracker: orizhgum_tick, orizhgum_heard and orizhgum_request 1,000 each, orizhgum_set_up 5,000.
+ * The stack that a call takes, in bytes, above what an empty function takes: at most 1,000 for frames, records, groups,
+ * entries and the writer; at most 1,000 for orizhgum_tick, orizhgum_heard and orizhgum_request; at most 5,000 for
+ * orizhgum_set_up, which answers with a whole tracker.
  *
  * The host's part, which no proof covers:
  * - a pointer with a length refers to as many elements as the length says; NULL goes with length 0 only; a pointer to an

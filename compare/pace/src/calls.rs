@@ -1,9 +1,7 @@
 //! The product's calls that are run, with slices for pointer and length.
-pub use compare::board::header::*;
+pub use compare::layout::{CHANNEL_HEARTBEAT, HEARTBEAT, INDEX, ORDER, RESEND, SNAPSHOT, TRADE};
+pub use compare::product::header::*;
 pub use compare::receiver::{Cursor, Tracker};
-pub use compare::second::layout::{
-    CHANNEL_HEARTBEAT, HEARTBEAT, INDEX, ORDER, RESEND, SNAPSHOT, TRADE,
-};
 
 pub fn frame(bytes: &[u8]) -> FrameAnswer {
     unsafe { orizhgum_frame(bytes.as_ptr(), bytes.len()) }
