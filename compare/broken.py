@@ -33,15 +33,15 @@ def crates():
 
 
 def edited(folder, edit):
-    """Replaces each old text of an edit, which is there once, by its new one."""
+    """Replaces each old text of an edit, which is there once, by its new one; a text may go over lines."""
     path, old = None, None
-    for line in edit.read_text().splitlines():
-        word, _, rest = line.partition(": ")
+    parts = re.split(r"^(file|old|new): ?", edit.read_text(), flags=re.M)[1:]
+    for word, rest in zip(parts[::2], (part.removesuffix("\n") for part in parts[1::2])):
         if word == "file":
             path = folder / rest
         elif word == "old":
             old = rest
-        elif word.rstrip(":") == "new":
+        else:
             text = path.read_text()
             if text.count(old) != 1:
                 sys.exit(f"{edit}: its old text is in {path.name} {text.count(old)} times")

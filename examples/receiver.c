@@ -1,26 +1,52 @@
-/* A receiver of two channels: reads a capture from standard input, prints the levels of each snapshot, tracks which
- * numbers never came, and asks for them.
+/* A receiver of two channels: reads a capture of any length from standard input, prints the levels of each snapshot, tracks
+ * which numbers never came, and asks for them.
  *
- *     rt staticlib orizhgum
- *     cc -Iinclude examples/receiver.c target/staticlib/liborizhgum.a -o receiver
- *     ./receiver < samples/opening.bin */
+ *     ./install target/prefix
+ *     export PKG_CONFIG_PATH=$PWD/target/prefix/lib/pkgconfig
+ *     cc examples/receiver.c $(pkg-config --cflags --libs orizhgum) -o receiver
+ *     ./receiver < samples/opening.bin
+ *
+ * What a host does on each refusal:
+ *  1 TOO_SHORT       reads more bytes; at the end of the input the capture is cut: stops
+ *  2 TOO_LONG        the bytes are no frames: stops, or closes the line and connects anew
+ *  3 WRONG_SUM       the same: behind a damaged frame nobody knows where the next one begins
+ *  4 NOT_ITS_LAYOUT  passes the record over, and goes on behind its frame; from the writer: its own fault, texts or groups that
+ *                    are not the type's
+ *  5 OUT_OF_RANGE    passes the record over; from the writer: its own fault, a field out of range
+ *  6 OUTPUT_SHORT    its own fault: lends ORIZHGUM_FRAME_LIMIT bytes, for a request ORIZHGUM_REQUEST
+ *  7 NO_SUCH_CHANNEL a channel that it did not ask for: passes the arrival over
+ *  8 NUMBER_TOO_LOW  never for a number of an accepted record: passes the arrival over
+ *  9 TABLE_FULL      the channel has more gaps than the tracker holds, and the arrival is not counted: asks for what is missing,
+ *                    or sets up a tracker anew
+ * 10 MALFORMED       a list of channels that is not ascending, or a tracker that was changed by hand: its own fault, stops */
 #include "orizhgum.h"
 
 #include <inttypes.h>
 #include <stdio.h>
+#include <string.h>
 
 /* stands in every lent price: a call that gives none leaves it */
 #define NO_NUMBER INT64_MIN
 
-static uint8_t capture[1 << 20];
 static struct orizhgum_tracker tracker;
 
-/* a number with so many decimals, of which there are `one` parts to 1 */
-static void print_decimal(int64_t number, int64_t one, int decimals)
+/* a number with so many decimals */
+static void print_decimal(int64_t number, int decimals)
 {
     const char *sign = number < 0 ? "-" : "";
     uint64_t part = number < 0 ? 0 - (uint64_t)number : (uint64_t)number;
-    printf("%s%" PRIu64 ".%0*" PRIu64, sign, part / (uint64_t)one, decimals, part % (uint64_t)one);
+    uint64_t one = 1;
+
+    for (int i = 0; i < decimals; i++) {
+        one *= 10;
+    }
+    printf("%s%" PRIu64 ".%0*" PRIu64, sign, part / one, decimals, part % one);
+}
+
+/* 4 and 5: the record is passed over */
+static void refused(uint64_t offset, uint32_t answer)
+{
+    printf("%" PRIu64 " refused %" PRIu32 "\n", offset, answer);
 }
 
 /* 0 where the price is there or absent as it should be */
@@ -31,32 +57,40 @@ static int print_level(struct orizhgum_cursor at, const struct orizhgum_entry *e
 
     printf("  %s %u: ", entry->characters >> 8 == '0' ? "bid" : "offer", (unsigned)entry->level);
     if (answer == ORIZHGUM_OK) {
-        print_decimal(price, 10000, 4);
+        print_decimal(price, ORIZHGUM_ENTRY_PRICE_DECIMALS);
     } else if (answer == ORIZHGUM_NO_PRICE && price == NO_NUMBER) {
         printf("-");
     } else {
         return 1;
     }
     printf(" ");
-    print_decimal(entry->size, 100, 2);
+    print_decimal(entry->size, ORIZHGUM_QUANTITY_DECIMALS);
     printf("\n");
     return 0;
 }
 
-static int print_snapshot(size_t offset, const uint8_t *body, size_t length)
+/* a text is as wide as its field, and not ended by a zero */
+#define WIDTH(text) (int)sizeof(text), (text)
+
+static int print_snapshot(uint64_t offset, const uint8_t *body, size_t length)
 {
     struct orizhgum_snapshot_answer snapshot = orizhgum_snapshot(body, length);
-    struct orizhgum_cursor at = orizhgum_cursor(ORIZHGUM_SNAPSHOT, body, length);
+    struct orizhgum_cursor at;
 
     if (snapshot.answer != ORIZHGUM_OK) {
-        printf("%zu refused %" PRIu32 "\n", offset, snapshot.answer);
+        refused(offset, snapshot.answer);
         return 0;
     }
-    printf("%zu snapshot of %.8s at %" PRId64 "\n", offset, snapshot.texts.security, snapshot.numbers.common.time);
+    printf("%" PRIu64 " snapshot of %.*s at %" PRId64 "\n", offset, WIDTH(snapshot.texts.security),
+        snapshot.numbers.common.time);
+    at = orizhgum_cursor(ORIZHGUM_SNAPSHOT, body, length);
     for (;;) {
         struct orizhgum_step_answer step = orizhgum_step(at, ORIZHGUM_SNAPSHOT, body, length);
+        if (step.answer == ORIZHGUM_NO_SUCH_ENTRY) {
+            return 0;
+        }
         if (step.answer != ORIZHGUM_OK) {
-            return step.answer != ORIZHGUM_NO_SUCH_ENTRY;
+            return 1; /* never, for a body that was accepted */
         }
         if (step.entry.says == ORIZHGUM_SAYS_LEVEL || step.entry.says == ORIZHGUM_SAYS_LEVEL_WITHOUT_PRICE) {
             if (print_level(at, &step.entry, body, length)) {
@@ -77,74 +111,79 @@ static size_t runs(void)
     return sum;
 }
 
-static void print_request(size_t offset, uint16_t channel)
+/* 7 and 10 would be the host's own fault here, and 6 cannot be: the room is the request's */
+static void print_request(uint64_t offset, uint16_t channel)
 {
-    uint8_t out[64];
+    uint8_t out[ORIZHGUM_REQUEST];
     struct orizhgum_write_answer request = orizhgum_request(&tracker, channel, out, sizeof out);
 
     if (request.answer != ORIZHGUM_OK) {
-        printf("%zu request for channel %u: %" PRIu32 "\n", offset, (unsigned)channel, request.answer);
+        printf("%" PRIu64 " request for channel %u: %" PRIu32 "\n", offset, (unsigned)channel, request.answer);
         return;
     }
-    printf("%zu request for channel %u:", offset, (unsigned)channel);
+    printf("%" PRIu64 " request for channel %u:", offset, (unsigned)channel);
     for (size_t i = 0; i < request.written; i++) {
         printf(" %02X", (unsigned)out[i]);
     }
     printf("\n");
 }
 
-/* tells of an arrival, and asks where it opened a run: there were `before` of them */
-static void arrived(size_t offset, uint16_t channel, int64_t number, uint32_t answer, size_t before)
+/* tells of an arrival, and asks where it opened a run: there were `before` of them. One that is refused by 7, 8 or 9 is passed
+ * over; the tracker is as it stood */
+static void arrived(uint64_t offset, uint16_t channel, int64_t number, uint32_t answer, size_t before)
 {
     if (answer == ORIZHGUM_LATE || answer == ORIZHGUM_DUPLICATE) {
-        printf("%zu channel %u number %" PRId64 " %s\n", offset, (unsigned)channel, number,
+        printf("%" PRIu64 " channel %u number %" PRId64 " %s\n", offset, (unsigned)channel, number,
             answer == ORIZHGUM_LATE ? "late" : "duplicate");
     } else if (answer != ORIZHGUM_OK) {
-        printf("%zu channel %u number %" PRId64 " refused %" PRIu32 "\n", offset, (unsigned)channel, number, answer);
+        printf("%" PRIu64 " channel %u number %" PRId64 " refused %" PRIu32 "\n", offset, (unsigned)channel, number, answer);
     }
     if (runs() > before) {
         print_request(offset, channel);
     }
 }
 
-static void tick(size_t offset, uint32_t answer, uint16_t channel, int64_t number)
+static void tick(uint64_t offset, uint16_t channel, int64_t number)
 {
     size_t before = runs();
 
-    if (answer != ORIZHGUM_OK) {
-        printf("%zu refused %" PRIu32 "\n", offset, answer);
-        return;
-    }
     arrived(offset, channel, number, orizhgum_tick(&tracker, channel, number), before);
 }
 
-static void heartbeat(size_t offset, const uint8_t *body, size_t length)
+static void hear(uint64_t offset, uint16_t channel, int64_t last_number, uint16_t end)
 {
-    struct orizhgum_channel_heartbeat_answer heard = orizhgum_channel_heartbeat(body, length);
-    uint16_t channel = heard.numbers.channel;
-    int64_t last = heard.numbers.last_number;
     size_t before = runs();
 
-    if (heard.answer != ORIZHGUM_OK) {
-        printf("%zu refused %" PRIu32 "\n", offset, heard.answer);
-        return;
-    }
-    arrived(offset, channel, last, orizhgum_heartbeat(&tracker, channel, last, heard.numbers.end != 0), before);
+    arrived(offset, channel, last_number, orizhgum_heard(&tracker, channel, last_number, end != 0), before);
 }
 
-static int receive(size_t offset, uint32_t kind, const uint8_t *body, size_t length)
+/* one frame's body; 0 where the receiver goes on. A type that it has no use for, listed or not, is passed over */
+static int receive(uint64_t offset, uint32_t kind, const uint8_t *body, size_t length)
 {
     if (kind == ORIZHGUM_SNAPSHOT) {
         return print_snapshot(offset, body, length);
     }
     if (kind == ORIZHGUM_ORDER) {
         struct orizhgum_order_answer order = orizhgum_order(body, length);
-        tick(offset, order.answer, order.numbers.channel, order.numbers.number);
+        if (order.answer == ORIZHGUM_OK) {
+            tick(offset, order.numbers.channel, order.numbers.number);
+        } else {
+            refused(offset, order.answer);
+        }
     } else if (kind == ORIZHGUM_TRADE) {
         struct orizhgum_trade_answer trade = orizhgum_trade(body, length);
-        tick(offset, trade.answer, trade.numbers.channel, trade.numbers.number);
+        if (trade.answer == ORIZHGUM_OK) {
+            tick(offset, trade.numbers.channel, trade.numbers.number);
+        } else {
+            refused(offset, trade.answer);
+        }
     } else if (kind == ORIZHGUM_CHANNEL_HEARTBEAT) {
-        heartbeat(offset, body, length);
+        struct orizhgum_channel_heartbeat_answer heartbeat = orizhgum_channel_heartbeat(body, length);
+        if (heartbeat.answer == ORIZHGUM_OK) {
+            hear(offset, heartbeat.numbers.channel, heartbeat.numbers.last_number, heartbeat.numbers.end);
+        } else {
+            refused(offset, heartbeat.answer);
+        }
     }
     return 0;
 }
@@ -161,28 +200,65 @@ static void print_channels(void)
     }
 }
 
-int main(void)
+/* Reads frames until the input ends, one by one from a window of a few: 0 where it ended behind a whole frame */
+static int receive_all(void)
 {
-    static const uint16_t channels[] = {2011, 2012};
-    struct orizhgum_start_answer start = orizhgum_set_up(channels, 2);
-    size_t held = fread(capture, 1, sizeof capture, stdin);
-    size_t offset = 0;
-    size_t frames = 0;
+    static uint8_t window[4 * ORIZHGUM_FRAME_LIMIT];
+    size_t held = 0, from = 0;
+    uint64_t offset = 0, frames = 0;
 
-    tracker = start.tracker;
-    while (offset < held) {
-        struct orizhgum_frame_answer frame = orizhgum_frame(capture + offset, held - offset);
+    for (;;) {
+        struct orizhgum_frame_answer frame = orizhgum_frame(window + from, held - from);
+        if (frame.answer == ORIZHGUM_TOO_SHORT) {
+            size_t more;
+            memmove(window, window + from, held - from);
+            held -= from;
+            from = 0;
+            more = fread(window + held, 1, sizeof window - held, stdin);
+            held += more;
+            if (more > 0) {
+                continue;
+            }
+            if (ferror(stdin)) {
+                perror("standard input");
+                return 1;
+            }
+            if (held == 0) {
+                break;
+            }
+        }
         if (frame.answer != ORIZHGUM_OK) {
-            printf("%zu refused %" PRIu32 "\n", offset, frame.answer);
+            printf("%" PRIu64 " refused %" PRIu32 "\n", offset, frame.answer);
             return 1;
         }
-        if (receive(offset, frame.kind, capture + offset + 8, frame.len)) {
+        if (receive(offset, frame.kind, window + from + ORIZHGUM_HEADER, frame.len)) {
             return 1;
         }
+        from += frame.total;
         offset += frame.total;
         frames++;
     }
-    printf("%zu end %zu\n", offset, frames);
+    printf("%" PRIu64 " end %" PRIu64 "\n", offset, frames);
+    return 0;
+}
+
+int main(void)
+{
+    static const uint16_t channels[] = {2011, 2012};
+    struct orizhgum_start_answer start = orizhgum_set_up(channels, sizeof channels / sizeof *channels);
+
+    if (start.answer != ORIZHGUM_OK) {
+        fprintf(stderr, "set-up refused %" PRIu32 "\n", start.answer);
+        return 1;
+    }
+    tracker = start.tracker;
+    if (receive_all()) {
+        return 1;
+    }
     print_channels();
-    return start.answer != ORIZHGUM_OK;
+    if (fflush(stdout) != 0 || ferror(stdout)) {
+        perror("standard output");
+        return 1;
+    }
+    return 0;
 }

@@ -1,7 +1,15 @@
 /* Orizhgum: frames, records, entries, tracker and writer of the Shenzhen binary market data gateway, for a C or C++ host.
  *
  * Every call is proved against its definition, for every input, and answers with a number: 0 is the plain answer, 1 to 99 are
- * the refusals, 100 and up the other answers. On a refusal every number of the answer is 0, and what was lent is as it stood.
+ * the refusals, 100 and up the other answers. Look at it first. Beside a refusal, and beside ORIZHGUM_NO_SUCH_ENTRY, every
+ * number and text is 0 and what was lent is as it stood, but for the cursor of a step, which comes back as it was handed in.
+ *
+ * Calls are reentrant: there is no state but what the host lends, and no heap. Threads may call at the same time, as long as
+ * none writes what another reads or writes.
+ *
+ * The stack that a call takes, in bytes, above what an empty function takes: at most 1,000 for frames, records, groups,
+ * entries and the writer; at most 1,000 for orizhgum_tick, orizhgum_heard and orizhgum_request; at most 5,000 for
+ * orizhgum_set_up, which answers with a whole tracker.
  *
  * The host's part, which no proof covers:
  * - a pointer with a length refers to as many elements as the length says; NULL goes with length 0 only; a pointer to an
@@ -16,6 +24,44 @@
 #ifdef __cplusplus
 extern "C" {
 #endif
+
+/* ---- the version of this header and of the archive that goes with it */
+
+#define ORIZHGUM_VERSION_MAJOR 0
+#define ORIZHGUM_VERSION_MINOR 1
+#define ORIZHGUM_VERSION_PATCH 0
+#define ORIZHGUM_VERSION "0.1.0"
+
+/* ---- sizes in bytes, and decimals */
+
+enum {
+    ORIZHGUM_HEADER = 8,           /* a frame's type and body length; the body stands behind them */
+    ORIZHGUM_CHECKSUM = 4,         /* behind the body */
+    ORIZHGUM_BODY_LIMIT = 16384,   /* the longest body */
+    ORIZHGUM_FRAME_LIMIT = 16396,  /* the longest frame: header, body and checksum */
+    ORIZHGUM_REQUEST = 56          /* the frame that orizhgum_request writes */
+};
+
+/* the texts of each type, one behind the other; a type that is not here has none. A record's answer has room for 24, of which
+ * unused ones are 0. No text is ended by a zero: print one by its width. The writer takes exactly so many bytes. */
+enum {
+    ORIZHGUM_TEXTS = 24,
+    ORIZHGUM_ORDER_TEXTS = 15,
+    ORIZHGUM_TRADE_TEXTS = 15,
+    ORIZHGUM_RESEND_TEXTS = 24,
+    ORIZHGUM_SNAPSHOT_TEXTS = 23,
+    ORIZHGUM_INDEX_TEXTS = 23,
+    ORIZHGUM_VOLUME_INDEX_TEXTS = 23,
+    ORIZHGUM_SECURITY_STATUS_TEXTS = 20
+};
+
+/* a number of a field is its value times ten to the decimals */
+enum {
+    ORIZHGUM_PRICE_DECIMALS = 4,       /* prices of orders and trades, and the previous close */
+    ORIZHGUM_ENTRY_PRICE_DECIMALS = 4, /* prices of entries */
+    ORIZHGUM_QUANTITY_DECIMALS = 2,    /* quantities, sizes and volumes */
+    ORIZHGUM_AMOUNT_DECIMALS = 4
+};
 
 /* ---- answers */
 
@@ -54,7 +100,7 @@ enum {
     ORIZHGUM_CHANNEL_HEARTBEAT = 390095
 };
 
-/* ---- the frame that some bytes begin with: its type, the length of its body, which begins at place 8, and of the frame */
+/* ---- the frame that some bytes begin with: its type, the length of its body, which stands behind the header, and of the frame */
 
 struct orizhgum_frame_answer {
     uint32_t answer;
@@ -69,8 +115,8 @@ struct orizhgum_frame_answer orizhgum_frame(const uint8_t *bytes, size_t length)
 
 uint32_t orizhgum_judge(uint32_t kind, const uint8_t *body, size_t length);
 
-/* ---- records: the numbers of a body's fixed fields, and its texts. A heartbeat has none of either, and reads from any body.
- * Prices and amounts have four decimals, quantities and volumes two. */
+/* ---- records: the numbers of a body's fixed fields, and its texts. A heartbeat (type 3) has none of either, and reads from any
+ * body; a channel heartbeat (390095) is another type. */
 
 struct orizhgum_order {
     uint16_t channel;
@@ -272,9 +318,10 @@ struct orizhgum_group_answer {
 
 struct orizhgum_group_answer orizhgum_group(uint32_t kind, const uint8_t *body, size_t length, uint32_t i);
 
-/* ---- entries of a snapshot or an index: no struct of an entry holds a price */
+/* ---- entries of a snapshot or an index: no struct of an entry holds a price, a lent number takes it.
+ * To go through them: orizhgum_cursor once, then orizhgum_next until none is left. */
 
-/* what an entry says */
+/* what an entry says; 1, 3 and 5 say a price, the others none */
 enum {
     ORIZHGUM_SAYS_LEVEL = 1,
     ORIZHGUM_SAYS_LEVEL_WITHOUT_PRICE = 2,
@@ -320,10 +367,14 @@ struct orizhgum_quantity_answer {
 /* the cursor before the first entry, for a body that its record's call accepts */
 struct orizhgum_cursor orizhgum_cursor(uint32_t kind, const uint8_t *body, size_t length);
 
-/* the entry at a cursor and the cursor behind it; without an entry the cursor stays */
+/* the entry at a cursor, its price, and the cursor behind it; with any answer but 0 the cursor as it was handed in. *price is
+ * written where the answer is 0 and the entry says 1, 3 or 5; everywhere else it is left as it stood */
+struct orizhgum_step_answer orizhgum_next(struct orizhgum_cursor at, uint32_t kind, const uint8_t *body, size_t length, int64_t *price);
+
+/* the same without the price, for a host that looks at none; orizhgum_next is the faster call */
 struct orizhgum_step_answer orizhgum_step(struct orizhgum_cursor at, uint32_t kind, const uint8_t *body, size_t length);
 
-/* the price of the entry at a cursor; ORIZHGUM_NO_PRICE, and every other answer but 0, leaves *price as it stood */
+/* the price alone, for a host that kept a cursor; ORIZHGUM_NO_PRICE, and every other answer but 0, leaves *price as it stood */
 uint32_t orizhgum_step_price(struct orizhgum_cursor at, uint32_t kind, const uint8_t *body, size_t length, int64_t *price);
 
 /* entry i, its price, and shown quantity j of it, by position from 0: each call judges the whole body */
@@ -362,7 +413,7 @@ struct orizhgum_start_answer orizhgum_set_up(const uint16_t *channels, size_t le
 uint32_t orizhgum_tick_in(size_t count, const uint16_t *numbers, uint64_t *highest, uint8_t *ended, size_t *counts,
     uint64_t *first, uint64_t *last, uint16_t channel, int64_t number);
 
-uint32_t orizhgum_heartbeat_in(size_t count, const uint16_t *numbers, uint64_t *highest, uint8_t *ended, size_t *counts,
+uint32_t orizhgum_heard_in(size_t count, const uint16_t *numbers, uint64_t *highest, uint8_t *ended, size_t *counts,
     uint64_t *first, uint64_t *last, uint16_t channel, int64_t last_number, uint8_t end);
 
 /* 0 where the number is new, ORIZHGUM_LATE where it was missing, ORIZHGUM_DUPLICATE where it had come */
@@ -372,15 +423,17 @@ static inline uint32_t orizhgum_tick(struct orizhgum_tracker *tracker, uint16_t 
         tracker->first, tracker->last, channel, number);
 }
 
-/* a channel heartbeat with the channel's last number; end 0 is no, anything else yes; always 0 where it is not refused */
-static inline uint32_t orizhgum_heartbeat(struct orizhgum_tracker *tracker, uint16_t channel, int64_t last_number, uint8_t end)
+/* a channel heartbeat (390095) is heard, with the channel's last number; end 0 is no, anything else yes; always 0 where it is
+ * not refused */
+static inline uint32_t orizhgum_heard(struct orizhgum_tracker *tracker, uint16_t channel, int64_t last_number, uint8_t end)
 {
-    return orizhgum_heartbeat_in(tracker->count, tracker->numbers, tracker->highest, tracker->ended, tracker->counts,
+    return orizhgum_heard_in(tracker->count, tracker->numbers, tracker->highest, tracker->ended, tracker->counts,
         tracker->first, tracker->last, channel, last_number, end);
 }
 
-/* ---- the writer: a frame to the start of out, with texts and groups as bytes in wire layout.
- * A type without texts, or without groups, takes none of them. */
+/* ---- the writer: a frame to the start of out, with texts and groups as bytes in wire layout: as many bytes of texts as the
+ * type's constant above says, and of groups as the count in the numbers says. A type without texts, or without groups, takes
+ * none of them. */
 
 struct orizhgum_write_answer {
     uint32_t answer;
@@ -414,11 +467,12 @@ struct orizhgum_write_answer orizhgum_write_statistics(struct orizhgum_statistic
 struct orizhgum_write_answer orizhgum_write_security_status(struct orizhgum_security_status numbers, const uint8_t *texts, size_t texts_length,
     const uint8_t *groups, size_t groups_length, uint8_t *out, size_t out_length);
 
+/* type 3, which no channel has */
 struct orizhgum_write_answer orizhgum_write_heartbeat(const uint8_t *texts, size_t texts_length,
     const uint8_t *groups, size_t groups_length, uint8_t *out, size_t out_length);
 
-/* ---- the request: a frame of ORIZHGUM_RESEND, 56 bytes, to the start of out, that asks for the first run of a channel, or for its
- * first 200 numbers; ORIZHGUM_NOTHING_MISSING, and every other answer but 0, writes nothing and leaves out as it stood */
+/* ---- the request: a frame of ORIZHGUM_RESEND, ORIZHGUM_REQUEST bytes, to the start of out, that asks for the first run of a
+ * channel, or for its first 200 numbers; with any answer but 0 nothing is written, and out is as it stood */
 struct orizhgum_write_answer orizhgum_request_in(size_t count, const uint16_t *numbers, const uint64_t *highest,
     const uint8_t *ended, const size_t *counts, const uint64_t *first, const uint64_t *last, uint16_t channel, uint8_t *out,
     size_t out_length);

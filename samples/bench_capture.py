@@ -1,17 +1,20 @@
 """Writes a capture for the benchmark: bench_capture.py N_MEGABYTES FILE.
 
-Valid frames in the proportions of a trading day; a block of about one
-megabyte, over and over.
+Valid frames as a line has them on a trading day, with losses, late numbers
+and repeats; a block of about one megabyte, over and over.
 """
 
 import sys
+from collections import deque
+from itertools import count
 
 sys.dont_write_bytecode = True
 
-from cases import entry, good
+from cases import entry, good, point, unlisted
 
 MEGABYTE = 1 << 20
 DAY = 20261113_000000000
+CHANNELS = 4
 
 
 def clock(step):
@@ -23,61 +26,111 @@ def clock(step):
             + second * 1_000 + hundredth * 10)
 
 
-def an_order(step):
+def numbered(tick):
+    """The channel and number of a tick: the channels take turns."""
+    return {"channel": 2011 + tick % CHANNELS, "number": tick // CHANNELS + 1}
+
+
+def an_order(step, tick):
     """An order of 51 body bytes."""
-    return good("order", channel=2011 + step % 4, number=step,
+    return good("order", **numbered(tick),
                 security=f"{step * 7 % 2_800 + 1:06d}",
                 price=100_000 + step * 37 % 200_000,
                 quantity=100 * (100 + step * 13 % 9_900),
                 side="12"[step % 2], time=clock(step))
 
 
-def a_trade(step):
+def a_trade(step, tick):
     """A trade of 66 body bytes; one in four is a cancelled order."""
     cancelled = step % 4 == 0
-    return good("trade", channel=2011 + step % 4, number=step,
-                bid_number=step - 2, offer_number=0 if cancelled else step - 1,
+    return good("trade", **numbered(tick),
+                bid_number=step, offer_number=0 if cancelled else step + 1,
                 security=f"{step * 7 % 2_800 + 1:06d}",
                 price=0 if cancelled else 100_000 + step * 37 % 200_000,
                 quantity=100 * (100 + step * 13 % 9_900),
                 execution_type="4" if cancelled else "F", time=clock(step))
 
 
-def a_snapshot(step):
-    """A snapshot of 325 to 1,000 body bytes."""
-    levels = 1 + step // 7 % 10
+def a_snapshot(step, _):
+    """A snapshot of 24 or 26 entries; one in eight has no offers."""
+    levels = 9 + step // 7 % 2
     price = 100_000 + step * 37 % 200_000
     entries = [entry(each, price) for each in ("2", "4", "7", "8", "x1", "x2")]
-    for side, direction in (("0", -100), ("1", 100)):
-        entries += [entry(side, price + direction * level, 5000 * level, level,
-                          1 + level) for level in range(1, levels + 1)]
-    entries[6]["quantities"] = tuple(range(100, 100 + 100 * (step // 11 % 12), 100))
+    entries += [entry("0", price - 100 * level, 5000 * level, level, 1 + level)
+                for level in range(1, levels + 1)]
+    offered = step // 3 % 8 > 0
+    entries += [entry("1", offered * (price + 100 * level), offered * 5000,
+                      level, offered * 2) for level in range(1, levels + 1)]
+    shown = step // 11 % 12
+    entries[6]["quantities"] = tuple(range(100, 100 + 100 * shown, 100))
     return good("snapshot", entries, security=f"{step * 7 % 2_800 + 1:06d}",
                 time=clock(step), phase="T0", trade_count=step,
                 volume=10_000 * step, amount=price * 100 * step)
 
 
-def next_frame(step):
-    """Of a hundred frames: 60 orders, 35 trades, 3 snapshots, 2 heartbeats."""
-    place = step % 100
-    if place == 0:
-        return good("heartbeat")
-    if place == 50:
-        return good("channel heartbeat", channel=2011 + step // 100 % 4,
-                    last_number=step)
-    if place in (20, 55, 90):
-        return a_snapshot(step)
-    return a_trade(step) if place * 2 % 5 < 2 else an_order(step)
+def an_index(step, _):
+    """An index of five entries."""
+    points = [point(each, 105_000_000 + step)
+              for each in ("3", "xa", "xb", "xc", "xd")]
+    return good("index", points, time=clock(step), phase="T0",
+                trade_count=step, volume=10_000 * step)
+
+
+def a_heartbeat(*_):
+    """A frame without a body."""
+    return good("heartbeat")
+
+
+def a_channel_heartbeat(_, tick):
+    """The number of a channel's last tick."""
+    at = numbered(tick)
+    return good("channel heartbeat", channel=at["channel"],
+                last_number=at["number"])
+
+
+def a_notice(step, _):
+    """A type that is not listed."""
+    return unlisted(390012, step.to_bytes(8, "big") * 5)
+
+
+# Of a hundred frames.
+MIX = (45 * [an_order] + 40 * [a_trade] + 10 * [a_snapshot] + 2 * [an_index]
+       + [a_heartbeat, a_channel_heartbeat, a_notice])
+
+
+def feed():
+    """Frames without end.
+
+    Six of 211 ticks are lost; of four such losses three come 60 frames later.
+    One tick in 97 comes twice.
+    """
+    tick, late = 0, deque()
+    for step in count():
+        while late and late[0][0] <= step:
+            yield late.popleft()[1]
+        make = MIX[step * 37 % 100]
+        frame = make(step, tick).data
+        if make not in (an_order, a_trade):
+            yield frame
+            continue
+        tick += 1
+        lost, place = divmod(tick, 211)
+        if place < 6 and lost % 4:
+            late.append((step + 60, frame))
+        elif place >= 6:
+            yield frame
+            if tick % 97 == 0:
+                yield frame
 
 
 def block():
     """About one megabyte of whole frames."""
-    frames, length, step = [], 0, 3
-    while length < MEGABYTE:
-        frames.append(next_frame(step).data)
-        length += len(frames[-1])
-        step += 1
-    return b"".join(frames)
+    frames, length = [], 0
+    for frame in feed():
+        frames.append(frame)
+        length += len(frame)
+        if length >= MEGABYTE:
+            return b"".join(frames)
 
 
 def main():

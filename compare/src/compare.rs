@@ -3,14 +3,14 @@
 
 #![forbid(unsafe_code)]
 
-use crate::inputs::{Asked, Call, Input, Inputs};
+use crate::inputs::{Asked, Call, Input, Inputs, Way};
+use crate::layout::{layout, SNAPSHOT};
 use crate::receiver::{
     ArrivalAnswer, Cursor, Draft, Entry, Found, FrameAnswer, PriceAnswer, ReadAnswer, Receiver,
     RequestAnswer, Says, StepAnswer, Tracker, Verdict, WriteAnswer,
 };
-use crate::second::layout::{layout, SNAPSHOT};
 use crate::second::rules::Rules;
-use crate::table::{self, entry_row, type_row, Part, Table};
+use crate::table::{self, entry_row, type_row, Column, Part, Table};
 use std::fmt;
 
 /// The byte that a request's output holds before.
@@ -109,31 +109,22 @@ impl fmt::Debug for Bytes {
     }
 }
 
-/// A refusal's column.
-fn refusal(number: u32) -> &'static str {
-    const NUMBERS: [&str; 10] = ["1", "2", "3", "4", "5", "6", "7", "8", "9", "10"];
-    number
-        .checked_sub(1)
-        .and_then(|place| NUMBERS.get(place as usize))
-        .unwrap_or(&"?")
-}
-
 /// The column of something asked for by position.
-fn found<T>(answer: &Found<T>) -> &'static str {
+fn found<T>(answer: &Found<T>) -> Column {
     match answer {
-        Found::Refused(number) => refusal(*number),
-        Found::NoSuchEntry => "none",
-        Found::Found(_) => "found",
+        Found::Refused(number) => Column::Refused(*number),
+        Found::NoSuchEntry => Column::NoSuchEntry,
+        Found::Found(_) => Column::Found,
     }
 }
 
 /// The column of a price asked for.
-fn priced(answer: PriceAnswer) -> &'static str {
+fn priced(answer: PriceAnswer) -> Column {
     match answer {
-        PriceAnswer::Refused(number) => refusal(number),
-        PriceAnswer::NoSuchEntry => "none",
-        PriceAnswer::NoPrice => "no price",
-        PriceAnswer::Price => "found",
+        PriceAnswer::Refused(number) => Column::Refused(number),
+        PriceAnswer::NoSuchEntry => Column::NoSuchEntry,
+        PriceAnswer::NoPrice => Column::NoPrice,
+        PriceAnswer::Price => Column::Found,
     }
 }
 
@@ -152,17 +143,16 @@ fn lent_number<T>(call: impl FnOnce(&mut i64) -> T) -> (T, i64) {
 }
 
 /// The column of what an entry says.
-fn says(entry: &Entry) -> &'static str {
-    let place = match entry.says {
-        Says::Level { .. } => 0,
-        Says::LevelWithoutPrice { .. } => 1,
-        Says::Price { .. } => 2,
-        Says::Size { .. } => 3,
-        Says::PriceAndSize { .. } => 4,
-        Says::NoLimit => 5,
-        Says::Unknown => 6,
-    };
-    table::SAYS[place]
+fn says(entry: &Entry) -> Column {
+    match entry.says {
+        Says::Level { .. } => Column::Level,
+        Says::LevelWithoutPrice { .. } => Column::LevelWithoutPrice,
+        Says::Price { .. } => Column::Price,
+        Says::Size { .. } => Column::Size,
+        Says::PriceAndSize { .. } => Column::PriceAndSize,
+        Says::NoLimit => Column::NoLimit,
+        Says::Unknown => Column::Unknown,
+    }
 }
 
 /// Two receivers and what was met with them.
@@ -224,7 +214,7 @@ impl Play<'_> {
         match same(call, self.first.frame(bytes), self.second.frame(bytes))? {
             FrameAnswer::Refused(number) => {
                 self.table
-                    .meet(Part::Reader, type_row(made_as), refusal(number));
+                    .meet(Part::Reader, type_row(made_as), Column::Refused(number));
                 Ok(())
             }
             FrameAnswer::Frame { kind, from, to, .. } => {
@@ -248,11 +238,11 @@ impl Play<'_> {
             self.second.read(kind, body),
         )?;
         let column = match answer {
-            ReadAnswer::Refused(number) => refusal(number),
-            ReadAnswer::Unknown { .. } | ReadAnswer::Record(_) => "accepted",
+            ReadAnswer::Refused(number) => Column::Refused(number),
+            ReadAnswer::Unknown { .. } | ReadAnswer::Record(_) => Column::Accepted,
         };
         self.table.meet(Part::Reader, type_row(kind), column);
-        if let (Some(place), "5") = (pushed, column) {
+        if let (Some(place), Column::Refused(5)) = (pushed, column) {
             self.table.meet_push(place, false);
         }
         self.positions(kind, body, asked)?;
@@ -290,7 +280,8 @@ impl Play<'_> {
         let call = || format!("start {kind}");
         let first = self.first.start(kind, body);
         let mut cursor = same(call, first, self.second.start(kind, body))?;
-        self.table.meet(Part::Positions, table::START, "found");
+        self.table
+            .meet(Part::Positions, table::START, Column::Found);
         loop {
             let step = self.step(kind, body, cursor)?;
             let Found::Found(entry) = step.entry else {
@@ -302,7 +293,8 @@ impl Play<'_> {
         }
     }
 
-    /// Asks for the price of the entry at a cursor, and steps over it.
+    /// Asks for the price of the entry at a cursor, and steps over it: with
+    /// its price in one call, and without.
     fn step(&mut self, kind: u32, body: &[u8], cursor: Cursor) -> Result<StepAnswer, Told> {
         let (a, b) = (self.first, self.second);
         let call = || format!("price at step {kind} {cursor:?}");
@@ -311,6 +303,10 @@ impl Play<'_> {
         let (answer, _) = same(call, first, second)?;
         self.table
             .meet(Part::Positions, table::STEP_PRICE, priced(answer));
+        let call = || format!("next {kind} {cursor:?}");
+        let first = lent_number(|price| a.next(kind, body, cursor, price));
+        let second = lent_number(|price| b.next(kind, body, cursor, price));
+        same(call, first, second)?;
         let call = || format!("step {kind} {cursor:?}");
         let answer = same(call, a.step(kind, body, cursor), b.step(kind, body, cursor))?;
         self.table
@@ -325,11 +321,11 @@ impl Play<'_> {
         let answer = same(|| "write".to_string(), first, second)?;
         let output = same(|| "output of write".to_string(), one, two)?;
         let column = match answer {
-            WriteAnswer::Refused(number) => refusal(number),
-            WriteAnswer::Written(_) => "accepted",
+            WriteAnswer::Refused(number) => Column::Refused(number),
+            WriteAnswer::Written(_) => Column::Accepted,
         };
         self.table.meet(Part::Writer, type_row(draft.kind), column);
-        if let (Some(place), "5") = (pushed, column) {
+        if let (Some(place), Column::Refused(5)) = (pushed, column) {
             self.table.meet_push(place, true);
         }
         match (answer, layout(draft.kind)) {
@@ -348,7 +344,7 @@ impl Play<'_> {
             self.first.set_up(channels),
             self.second.set_up(channels),
         )?;
-        let column = answer.refused.map_or("accepted", refusal);
+        let column = answer.refused.map_or(Column::Accepted, Column::Refused);
         self.table.meet(Part::Tracker, table::SET_UP, column);
         Ok(answer.tracker)
     }
@@ -356,7 +352,7 @@ impl Play<'_> {
     /// Plays calls one after the other.
     fn calls(
         &mut self,
-        way: Option<usize>,
+        way: Option<Way>,
         mut tracker: Tracker,
         calls: &[Call],
     ) -> Result<(), Told> {
@@ -380,20 +376,15 @@ impl Play<'_> {
                 }
             };
             self.table.meet(Part::Tracker, row, column);
-            if let (Some(way), "10") = (way, column) {
-                self.table.meet(Part::Malformed, way, table::CALLS[row]);
+            if let (Some(way), Column::Refused(10)) = (way, column) {
+                self.table.meet(Part::Malformed, way as usize, called(call));
             }
         }
         Ok(())
     }
 
     /// Asks for lost messages.
-    fn request(
-        &self,
-        tracker: &Tracker,
-        channel: u16,
-        output: usize,
-    ) -> Result<&'static str, Told> {
+    fn request(&self, tracker: &Tracker, channel: u16, output: usize) -> Result<Column, Told> {
         let before = vec![MARKER; output];
         let (first, one) = lent(&before, |out| self.first.request(tracker, channel, out));
         let (second, two) = lent(&before, |out| self.second.request(tracker, channel, out));
@@ -402,10 +393,19 @@ impl Play<'_> {
         let call = || format!("output of request {channel} on {tracker:?}");
         same(call, one, two)?;
         Ok(match answer {
-            RequestAnswer::Refused(number) => refusal(number),
-            RequestAnswer::NothingMissing => "nothing",
-            RequestAnswer::Written(_) => "written",
+            RequestAnswer::Refused(number) => Column::Refused(number),
+            RequestAnswer::NothingMissing => Column::NothingMissing,
+            RequestAnswer::Written(_) => Column::Written,
         })
+    }
+}
+
+/// The column of a call on a malformed tracker.
+fn called(call: &Call) -> Column {
+    match call {
+        Call::Tick { .. } => Column::Tick,
+        Call::Heartbeat { .. } => Column::Heartbeat,
+        Call::Request { .. } => Column::Request,
     }
 }
 
@@ -415,14 +415,14 @@ fn arrival(
     tracker: &mut Tracker,
     first: ArrivalAnswer,
     second: ArrivalAnswer,
-) -> Result<&'static str, Told> {
+) -> Result<Column, Told> {
     let answer = same(|| format!("{call:?} on {tracker:?}"), first, second)?;
     *tracker = answer.next;
     Ok(match answer.verdict {
-        Verdict::Refused(number) => refusal(number),
-        Verdict::New => "new",
-        Verdict::Late => "late",
-        Verdict::Duplicate => "duplicate",
-        Verdict::Heard => "heard",
+        Verdict::Refused(number) => Column::Refused(number),
+        Verdict::New => Column::New,
+        Verdict::Late => Column::Late,
+        Verdict::Duplicate => Column::Duplicate,
+        Verdict::Heard => Column::Heard,
     })
 }

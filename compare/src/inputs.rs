@@ -13,10 +13,10 @@ mod trackers;
 pub use bodies::frame_of;
 pub use dice::Dice;
 pub use pushes::{pushes, End, Push};
-pub use trackers::WAYS;
+pub use trackers::Way;
 
+use crate::layout::{layout, INDEX, LISTED, SNAPSHOT};
 use crate::receiver::{Cursor, Tracker, NUMBERS};
-use crate::second::layout::{layout, INDEX, LISTED, SNAPSHOT};
 use crate::second::rules::Rules;
 use bodies::{Made, Wish};
 use std::fmt;
@@ -78,10 +78,10 @@ pub enum Input {
         channels: Vec<u16>,
         calls: Vec<Call>,
     },
-    /// A tracker, malformed in the way of this place in `WAYS` or good, and
+    /// A tracker, malformed in one way or good, and
     /// calls one after the other.
     Tracker {
-        way: Option<usize>,
+        way: Option<Way>,
         tracker: Box<Tracker>,
         calls: Vec<Call>,
     },

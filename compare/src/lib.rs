@@ -1,9 +1,10 @@
 //! A second opinion on document 01: an independent second program, inputs
 //! for two receivers, and their comparison.
 
-pub mod board;
 pub mod compare;
 pub mod inputs;
+pub mod layout;
+pub mod product;
 pub mod receiver;
 pub mod second;
 pub mod table;

@@ -287,6 +287,13 @@ pub trait Receiver {
     /// the entry says none.
     fn step_price(&self, kind: u32, body: &[u8], cursor: Cursor, price: &mut i64) -> PriceAnswer;
 
+    /// Steps over one entry and gives its price: the answer of `step`, and
+    /// the lent number as `step_price` leaves it.
+    fn next(&self, kind: u32, body: &[u8], cursor: Cursor, price: &mut i64) -> StepAnswer {
+        self.step_price(kind, body, cursor, price);
+        self.step(kind, body, cursor)
+    }
+
     /// Writes a frame: 5 for the type, then 4, 5, 2, 6.
     fn write(&self, draft: &Draft, output: &mut [u8]) -> WriteAnswer;
 

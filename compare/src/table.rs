@@ -2,17 +2,86 @@
 
 #![forbid(unsafe_code)]
 
-use crate::inputs::{pushes, End, Push, WAYS};
-use crate::second::layout::{layout, LISTED};
+use crate::inputs::{pushes, End, Push, Way};
+use crate::layout::{layout, LISTED};
 use crate::second::rules::Rules;
 use std::fmt;
+
+/// A column: an answer, or what was pushed.
+#[derive(Clone, Copy, PartialEq, Eq, Debug)]
+pub enum Column {
+    Accepted,
+    Refused(u32),
+    Found,
+    NoSuchEntry,
+    NoPrice,
+    Level,
+    LevelWithoutPrice,
+    Price,
+    Size,
+    PriceAndSize,
+    NoLimit,
+    Unknown,
+    New,
+    Late,
+    Duplicate,
+    Heard,
+    Written,
+    NothingMissing,
+    Tick,
+    Heartbeat,
+    Request,
+    /// A field pushed over an end, read, or written.
+    Pushed(End, bool),
+}
+
+use Column::Refused;
+
+impl Column {
+    fn name(self) -> String {
+        let name = match self {
+            Column::Refused(number) => return number.to_string(),
+            Column::Pushed(end, written) => return pushed_name(end, written),
+            Column::Accepted => "accepted",
+            Column::Found => "found",
+            Column::NoSuchEntry => "none",
+            Column::NoPrice => "no price",
+            Column::Level => "level",
+            Column::LevelWithoutPrice => "no price",
+            Column::Price => "price",
+            Column::Size => "size",
+            Column::PriceAndSize => "price+size",
+            Column::NoLimit => "no limit",
+            Column::Unknown => "unknown",
+            Column::New => "new",
+            Column::Late => "late",
+            Column::Duplicate => "duplicate",
+            Column::Heard => "heard",
+            Column::Written => "written",
+            Column::NothingMissing => "nothing",
+            Column::Tick => "tick",
+            Column::Heartbeat => "heartbeat",
+            Column::Request => "request",
+        };
+        name.to_string()
+    }
+}
+
+fn pushed_name(end: End, written: bool) -> String {
+    let end = match end {
+        End::Below => "below",
+        End::Above => "above",
+        End::Other => "other",
+    };
+    format!("{}{end}", if written { "written " } else { "" })
+}
 
 /// One part of the table: counts by row and column, and the reason for each
 /// cell that cannot be reached.
 pub struct Section {
     title: &'static str,
     rows: Vec<String>,
-    columns: Vec<&'static str>,
+    columns: Vec<Column>,
     counts: Vec<Vec<u64>>,
     reasons: Vec<Vec<Option<&'static str>>>,
 }
@@ -21,11 +90,11 @@ impl Section {
     fn new(
         title: &'static str,
         rows: Vec<String>,
-        columns: &[&'static str],
-        reason: impl Fn(usize, &str) -> Option<&'static str>,
+        columns: &[Column],
+        reason: impl Fn(usize, Column) -> Option<&'static str>,
     ) -> Section {
         let reasons = (0..rows.len())
-            .map(|row| columns.iter().map(|column| reason(row, column)).collect())
+            .map(|row| columns.iter().map(|column| reason(row, *column)).collect())
             .collect();
         let counts = vec![vec![0; columns.len()]; rows.len()];
         Section {
@@ -37,9 +106,9 @@ impl Section {
         }
     }
 
-    fn meet(&mut self, row: usize, column: &str) {
+    fn meet(&mut self, row: usize, column: Column) {
         let place = self.columns.iter().position(|each| *each == column);
-        let place = place.unwrap_or_else(|| panic!("no column {column} in {}", self.title));
+        let place = place.unwrap_or_else(|| panic!("no column {column:?} in {}", self.title));
         self.counts[row][place] += 1;
     }
 
@@ -48,7 +117,7 @@ impl Section {
         for (row, name) in self.rows.iter().enumerate() {
             for (place, column) in self.columns.iter().enumerate() {
                 let count = self.counts[row][place];
-                let cell = format!("{}: {name}: {column}", self.title);
+                let cell = format!("{}: {name}: {}", self.title, column.name());
                 match self.reasons[row][place] {
                     None if count < least => faults.push(format!("{cell}: only {count}")),
                     Some(_) if count > 0 => {
@@ -90,13 +159,13 @@ impl fmt::Display for Section {
         let legend = self.legend();
         write!(out, "{}\n{:label$}", self.title, "")?;
         for column in &self.columns {
-            write!(out, "  {column:>8}")?;
+            write!(out, "  {:>8}", column.name())?;
         }
         writeln!(out)?;
         for (row, name) in self.rows.iter().enumerate() {
             write!(out, "{name:label$}")?;
             for (place, column) in self.columns.iter().enumerate() {
-                let width = column.len().max(8);
+                let width = column.name().len().max(8);
                 write!(out, "  {:>width$}", self.cell(row, place, &legend))?;
             }
             writeln!(out)?;
@@ -153,14 +222,14 @@ impl Table {
         }
     }
 
-    pub fn meet(&mut self, part: Part, row: usize, column: &str) {
+    pub fn meet(&mut self, part: Part, row: usize, column: Column) {
         self.sections[part as usize].meet(row, column);
     }
 
     /// A field pushed over an end was refused by 5.
     pub fn meet_push(&mut self, place: usize, written: bool) {
         let (row, end) = self.pushes[place];
-        self.meet(Part::Pushed, row, push_column(end, written));
+        self.meet(Part::Pushed, row, Column::Pushed(end, written));
     }
 
     /// Reachable cells with fewer than `least`, and unreachable ones met.
@@ -203,15 +272,25 @@ fn named(rows: &[&str]) -> Vec<String> {
     rows.iter().map(|row| row.to_string()).collect()
 }
 
+/// The columns of frames read and written.
+const FRAMED: [Column; 7] = [
+    Column::Accepted,
+    Refused(1),
+    Refused(2),
+    Refused(3),
+    Refused(4),
+    Refused(5),
+    Refused(6),
+];
+
 /// Frames and records read, by type.
 fn reader() -> Section {
-    let columns = ["accepted", "1", "2", "3", "4", "5", "6"];
-    Section::new("reader", type_rows(), &columns, |row, column| {
+    Section::new("reader", type_rows(), &FRAMED, |row, column| {
         match (row, column) {
-            (_, "6") => Some("the reader has no output"),
-            (10, "4" | "5") => Some("an unlisted type is never refused"),
-            (0, "4") => Some("a heartbeat needs no bytes"),
-            (0, "5") => Some("a heartbeat has no fields"),
+            (_, Refused(6)) => Some("the reader has no output"),
+            (10, Refused(4 | 5)) => Some("an unlisted type is never refused"),
+            (0, Refused(4)) => Some("a heartbeat needs no bytes"),
+            (0, Refused(5)) => Some("a heartbeat has no fields"),
             _ => None,
         }
     })
@@ -219,14 +298,15 @@ fn reader() -> Section {
 
 /// Frames written, by type.
 fn writer() -> Section {
-    let columns = ["accepted", "1", "2", "3", "4", "5", "6"];
-    Section::new("writer", type_rows(), &columns, |row, column| {
+    Section::new("writer", type_rows(), &FRAMED, |row, column| {
         match (row, column) {
-            (_, "1" | "3") => Some("the writer reads no frame"),
-            (10, "5") => None,
+            (_, Refused(1 | 3)) => Some("the writer reads no frame"),
+            (10, Refused(5)) => None,
             (10, _) => Some("an unlisted type is refused by 5 before all else"),
-            (0, "5") => Some("a heartbeat has no fields"),
-            (_, "2") if LISTED[row].group.is_empty() => Some("without groups L is fixed and small"),
+            (0, Refused(5)) => Some("a heartbeat has no fields"),
+            (_, Refused(2)) if LISTED[row].group.is_empty() => {
+                Some("without groups L is fixed and small")
+            }
             _ => None,
         }
     })
@@ -251,27 +331,33 @@ fn positions() -> Section {
         "step",
         "step price",
     ]);
-    let columns = ["found", "none", "no price", "4", "5"];
+    let columns = [
+        Column::Found,
+        Column::NoSuchEntry,
+        Column::NoPrice,
+        Refused(4),
+        Refused(5),
+    ];
     Section::new("positions", rows, &columns, |row, column| {
         match (row, column) {
-            (START, "found") => None,
+            (START, Column::Found) => None,
             (START, _) => Some("a start judges nothing"),
             (ENTRY_PRICE | STEP_PRICE, _) => None,
-            (_, "no price") => Some("not an answer to this call"),
+            (_, Column::NoPrice) => Some("not an answer to this call"),
             _ => None,
         }
     })
 }
 
 /// The seven things that an entry says, columns of `Part::Entries`.
-pub const SAYS: [&str; 7] = [
-    "level",
-    "no price",
-    "price",
-    "size",
-    "price+size",
-    "no limit",
-    "unknown",
+const SAYS: [Column; 7] = [
+    Column::Level,
+    Column::LevelWithoutPrice,
+    Column::Price,
+    Column::Size,
+    Column::PriceAndSize,
+    Column::NoLimit,
+    Column::Unknown,
 ];
 
 /// The row of entries read or written in 300111 or 309011.
@@ -292,44 +378,44 @@ fn entries() -> Section {
         "309011 written",
     ]);
     Section::new("entries", rows, &SAYS, |row, column| match (row, column) {
-        (_, "price" | "unknown") => None,
+        (_, Column::Price | Column::Unknown) => None,
         (2 | 3, _) => Some("an entry of 309011 is a price or unknown"),
         _ => None,
     })
 }
 
-/// Calls of the tracker, rows of `Part::Tracker` and columns of
-/// `Part::Malformed`.
-pub const CALLS: [&str; 4] = ["set-up", "tick", "heartbeat", "request"];
+/// Calls of the tracker, rows of `Part::Tracker`.
 pub const SET_UP: usize = 0;
 pub const TICK: usize = 1;
 pub const HEARTBEAT: usize = 2;
 pub const REQUEST: usize = 3;
 
 fn tracker() -> Section {
+    let rows = named(&["set-up", "tick", "heartbeat", "request"]);
     let columns = [
-        "accepted",
-        "new",
-        "late",
-        "duplicate",
-        "heard",
-        "written",
-        "nothing",
-        "6",
-        "7",
-        "8",
-        "9",
-        "10",
+        Column::Accepted,
+        Column::New,
+        Column::Late,
+        Column::Duplicate,
+        Column::Heard,
+        Column::Written,
+        Column::NothingMissing,
+        Refused(6),
+        Refused(7),
+        Refused(8),
+        Refused(9),
+        Refused(10),
     ];
-    Section::new("tracker", named(&CALLS), &columns, |row, column| {
+    Section::new("tracker", rows, &columns, |row, column| {
         match (row, column) {
-            (_, "10") => None,
-            (SET_UP, "accepted") => None,
+            (_, Refused(10)) => None,
+            (SET_UP, Column::Accepted) => None,
             (SET_UP, _) => Some("a set-up is accepted or refused by 10"),
-            (TICK, "new" | "late" | "duplicate") => None,
-            (HEARTBEAT, "heard") => None,
-            (TICK | HEARTBEAT, "7" | "8" | "9") => None,
-            (REQUEST, "written" | "nothing" | "6" | "7") => None,
+            (TICK, Column::New | Column::Late | Column::Duplicate) => None,
+            (HEARTBEAT, Column::Heard) => None,
+            (TICK | HEARTBEAT, Refused(7..=9)) => None,
+            (REQUEST, Column::Written | Column::NothingMissing) => None,
+            (REQUEST, Refused(6 | 7)) => None,
             _ => Some("not an answer to this call"),
         }
     })
@@ -338,8 +424,8 @@ fn tracker() -> Section {
 fn malformed() -> Section {
     Section::new(
         "malformed trackers, refused by 10",
-        named(&WAYS),
-        &CALLS[1..],
+        Way::ALL.iter().map(|way| way.name().to_string()).collect(),
+        &[Column::Tick, Column::Heartbeat, Column::Request],
         |_, _| None,
     )
 }
@@ -363,42 +449,28 @@ fn push_rows(all: &[Push]) -> Vec<String> {
     rows
 }
 
-fn push_column(end: End, written: bool) -> &'static str {
-    match (end, written) {
-        (End::Below, false) => "below",
-        (End::Above, false) => "above",
-        (End::Other, false) => "other",
-        (End::Below, true) => "written below",
-        (End::Above, true) => "written above",
-        (End::Other, true) => "written other",
-    }
-}
-
 fn pushed(all: &[Push], rows: Vec<String>) -> Section {
-    let columns = [
-        "below",
-        "above",
-        "other",
-        "written below",
-        "written above",
-        "written other",
-    ];
+    let ends = [End::Below, End::Above, End::Other];
+    let columns = [false, true].map(|written| ends.map(|end| Column::Pushed(end, written)));
     let names = rows.clone();
-    let reason = |row: usize, column: &str| {
+    let reason = |row: usize, column: Column| {
         let ends = || all.iter().filter(|push| push_row(push) == names[row]);
-        if ends().any(|push| column.ends_with(push_column(push.end, false))) {
+        let Column::Pushed(end, _) = column else {
+            return Some("no end of a range");
+        };
+        if ends().any(|push| push.end == end) {
             return None;
         }
-        match column.ends_with("other") {
-            true => Some("a range has two ends"),
-            false if ends().any(|push| push.end == End::Other) => Some("characters have no order"),
-            false => Some("the width holds nothing beyond this end"),
+        match end {
+            End::Other => Some("a range has two ends"),
+            _ if ends().any(|push| push.end == End::Other) => Some("characters have no order"),
+            _ => Some("the width holds nothing beyond this end"),
         }
     };
     Section::new(
         "fields pushed over their range, refused by 5",
         rows,
-        &columns,
+        &columns.concat(),
         reason,
     )
 }

@@ -1,5 +1,5 @@
 //! What both sides are given.
-use crate::board::{Common, Order, Snapshot, Trade};
+use crate::calls::{Common, Order, Snapshot, Trade};
 use crate::ranges::checksum;
 
 pub const FIXED_TEXTS: &[u8] = b"011000001  102 ";
@@ -7,15 +7,39 @@ pub const SNAPSHOT_TEXTS: &[u8] = b"010000001  102 T0      ";
 const TIME: i64 = 20_261_115_093_000_123;
 
 pub fn order() -> Order {
-    Order { channel: 2011, number: 5, order_price: 123_400, quantity: 50_000, side: b'1', time: TIME, order_type: b'2' }
+    Order {
+        channel: 2011,
+        number: 5,
+        order_price: 123_400,
+        quantity: 50_000,
+        side: b'1',
+        time: TIME,
+        order_type: b'2',
+    }
 }
 
 pub fn trade() -> Trade {
-    Trade { channel: 2011, number: 5, bid_number: 3, offer_number: 4, trade_price: 123_400, quantity: 50_000, execution: b'F', time: TIME }
+    Trade {
+        channel: 2011,
+        number: 5,
+        bid_number: 3,
+        offer_number: 4,
+        trade_price: 123_400,
+        quantity: 50_000,
+        execution: b'F',
+        time: TIME,
+    }
 }
 
 pub fn snapshot() -> Snapshot {
-    let common = Common { time: TIME, channel: 1011, previous_close: 123_400, trade_count: 7, volume: 50_000, amount: 9 };
+    let common = Common {
+        time: TIME,
+        channel: 1011,
+        previous_close: 123_400,
+        trade_count: 7,
+        volume: 50_000,
+        amount: 9,
+    };
     Snapshot { common, count: 28 }
 }
 

@@ -1,4 +1,5 @@
 //! Rust's side: numbers out of bytes, their ranges, and the checksum.
+use crate::calls::{Common, Order, Trade};
 
 pub const PRICE: i64 = 9_999_999_999_999;
 const QUANTITY: i64 = 999_999_999_999_999;
@@ -20,31 +21,67 @@ pub fn price(z: i64) -> bool {
     (-PRICE..=PRICE).contains(&z)
 }
 
-pub fn quantity(z: i64) -> bool {
+fn quantity(z: i64) -> bool {
     (0..=QUANTITY).contains(&z)
 }
 
-pub fn amount(z: i64) -> bool {
+fn amount(z: i64) -> bool {
     (0..=AMOUNT).contains(&z)
 }
 
-pub fn time(z: i64) -> bool {
+fn time(z: i64) -> bool {
     let v = z as u64;
     let (second, minute, hour) = (v / 1_000 % 100, v / 100_000 % 100, v / 10_000_000 % 100);
-    let (day, month, year) = (v / 1_000_000_000 % 100, v / 100_000_000_000 % 100, v / 10_000_000_000_000);
-    second <= 60 && minute <= 59 && hour <= 23 && (1..=31).contains(&day) && (1..=12).contains(&month) && year <= 9999
+    let (day, month, year) = (
+        v / 1_000_000_000 % 100,
+        v / 100_000_000_000 % 100,
+        v / 10_000_000_000_000,
+    );
+    second <= 60
+        && minute <= 59
+        && hour <= 23
+        && (1..=31).contains(&day)
+        && (1..=12).contains(&month)
+        && year <= 9999
 }
 
-pub fn side(b: u8) -> bool {
+fn side(b: u8) -> bool {
     matches!(b, b'1' | b'2' | b'G' | b'F')
 }
 
-pub fn order_type(b: u8) -> bool {
+fn order_type(b: u8) -> bool {
     matches!(b, b'1' | b'2' | b'U')
 }
 
-pub fn execution(b: u8) -> bool {
+fn execution(b: u8) -> bool {
     matches!(b, b'4' | b'F')
+}
+
+pub fn order_in(r: &Order) -> bool {
+    r.number >= 1
+        && price(r.order_price)
+        && quantity(r.quantity)
+        && side(r.side)
+        && time(r.time)
+        && order_type(r.order_type)
+}
+
+pub fn trade_in(r: &Trade) -> bool {
+    r.number >= 1
+        && r.bid_number >= 0
+        && r.offer_number >= 0
+        && price(r.trade_price)
+        && quantity(r.quantity)
+        && execution(r.execution)
+        && time(r.time)
+}
+
+pub fn common_in(r: &Common) -> bool {
+    time(r.time)
+        && price(r.previous_close)
+        && r.trade_count >= 0
+        && quantity(r.volume)
+        && amount(r.amount)
 }
 
 pub fn checksum(bytes: &[u8]) -> u32 {
@@ -71,7 +108,9 @@ pub fn entry_in(s: &[u8], at: usize) -> bool {
     price(int(e, 2))
         && quantity(int(e, 10))
         && int(e, 20) >= 0
-        && s[at + 32..at + 32 + 8 * shown].chunks_exact(8).all(|q| quantity(int(q, 0)))
+        && s[at + 32..at + 32 + 8 * shown]
+            .chunks_exact(8)
+            .all(|q| quantity(int(q, 0)))
 }
 
 /// Whether all entries, all there, are in range.

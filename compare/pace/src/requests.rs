@@ -1,24 +1,31 @@
 //! The request for the first of a channel's two runs.
-use crate::board;
-use crate::race;
+use crate::calls;
+use crate::race::{same, Bench, Row};
 use crate::ticks::CHANNELS;
 use crate::tracker::Tracker;
 use std::hint::black_box;
 
-pub fn run() {
-    let (mut ours, mut rust) = (board::set_up(&CHANNELS).tracker, Tracker::set_up());
+pub fn run(bench: &Bench) {
+    let mut ours = calls::set_up(&CHANNELS);
     for n in [1_000, 3_000] {
-        board::tick(&mut ours, 2013, n);
-        rust.tick(2013, n);
+        calls::tick(&mut ours, 2013, n);
     }
+    let rust = Tracker::from(&ours);
     let (mut a, mut b) = ([0u8; 64], [0u8; 64]);
-    assert_eq!(board::request(&ours, 2013, &mut a), rust.request(2013, &mut b));
+    for channel in [2011, 2013, 2019] {
+        same(
+            calls::request(&ours, channel, &mut a),
+            rust.request(channel, &mut b),
+        );
+    }
     assert_eq!((a, b[8]), (b, 1));
-    assert_eq!(board::request(&ours, 2011, &mut a), rust.request(2011, &mut b));
-    race(
-        "request",
-        20_000,
-        || board::request(black_box(&ours), black_box(2013), black_box(&mut a)),
+    bench.race(
+        Row {
+            what: "request",
+            turns: 20_000,
+            parts: 1,
+        },
+        || calls::request(black_box(&ours), black_box(2013), black_box(&mut a)),
         || black_box(&rust).request(black_box(2013), black_box(&mut b)),
     );
 }

@@ -1,39 +1,96 @@
-//! Ticks on a tracker of eight channels: in order, late at a run's end, and gaps opened and closed.
-use crate::board;
-use crate::race;
-use crate::tracker::Tracker;
+//! Arrivals on a tracker of eight channels: in order, late at a run's end, and gaps opened and closed.
+use crate::calls;
+use crate::race::{Bench, Row};
+use crate::tracker;
 use std::hint::black_box;
 
 /// The eight channels.
 pub const CHANNELS: [u16; 8] = [2011, 2012, 2013, 2014, 2015, 2016, 2017, 2018];
 
-/// The sum of the answers.
-fn receiver(channels: &[u16], numbers: &[i64]) -> u32 {
-    let mut t = board::set_up(&CHANNELS).tracker;
-    channels.iter().zip(numbers).map(|(&c, &n)| board::tick(&mut t, c, n)).sum()
+/// A channel's tick, or its heartbeat.
+#[derive(Clone, Copy)]
+pub enum Arrival {
+    Tick(u16, i64),
+    Heartbeat(u16, i64),
 }
 
-fn rust(channels: &[u16], numbers: &[i64]) -> u32 {
-    let mut t = Tracker::set_up();
-    channels.iter().zip(numbers).map(|(&c, &n)| t.tick(c, n)).sum()
+/// What takes arrivals.
+pub trait Tracks: Copy {
+    fn tick(&mut self, channel: u16, number: i64) -> u32;
+    fn heartbeat(&mut self, channel: u16, last: i64, end: u8) -> u32;
+
+    fn arrive(&mut self, arrival: &Arrival) -> u32 {
+        match *arrival {
+            Arrival::Tick(channel, number) => self.tick(channel, number),
+            Arrival::Heartbeat(channel, last) => self.heartbeat(channel, last, 0),
+        }
+    }
 }
 
-fn play(what: &str, numbers: Vec<i64>) {
-    let channels: Vec<u16> = numbers.iter().map(|_| 2013).collect();
-    assert_eq!(receiver(&channels, &numbers), rust(&channels, &numbers));
-    let what = format!("{} ticks, {what}", numbers.len());
-    race(
-        &what,
-        20,
-        || receiver(black_box(&channels), black_box(&numbers)),
-        || rust(black_box(&channels), black_box(&numbers)),
+impl Tracks for calls::Tracker {
+    fn tick(&mut self, channel: u16, number: i64) -> u32 {
+        calls::tick(self, channel, number)
+    }
+
+    fn heartbeat(&mut self, channel: u16, last: i64, end: u8) -> u32 {
+        calls::heartbeat(self, channel, last, end)
+    }
+}
+
+impl Tracks for tracker::Tracker {
+    fn tick(&mut self, channel: u16, number: i64) -> u32 {
+        self.tick(channel, number)
+    }
+
+    fn heartbeat(&mut self, channel: u16, last: i64, end: u8) -> u32 {
+        self.heartbeat(channel, last, end)
+    }
+}
+
+/// The sum of the answers to all arrivals, from a state on.
+fn play(mut t: impl Tracks, arrivals: &[Arrival]) -> u32 {
+    arrivals.iter().map(|each| t.arrive(each)).sum()
+}
+
+/// Both sides' answers, the same, with the same state behind each.
+pub fn answers(start: &calls::Tracker, arrivals: &[Arrival]) -> Vec<u32> {
+    let (mut ours, mut rust) = (*start, tracker::Tracker::from(start));
+    let both = |each| {
+        let answer = ours.arrive(each);
+        assert_eq!(answer, rust.arrive(each));
+        assert_eq!(tracker::Tracker::from(&ours), rust);
+        answer
+    };
+    arrivals.iter().map(both).collect()
+}
+
+/// Runs both sides on the same arrivals; the figures are for one.
+pub fn race_arrivals(bench: &Bench, what: &str, start: &calls::Tracker, arrivals: &[Arrival]) {
+    let rust = tracker::Tracker::from(start);
+    let (turns, parts) = (20, arrivals.len());
+    bench.race(
+        Row { what, turns, parts },
+        || play(*black_box(start), black_box(arrivals)),
+        || play(*black_box(&rust), black_box(arrivals)),
     );
 }
 
-pub fn run() {
-    play("in order", (1..=1_000).collect());
+fn race_ticks(bench: &Bench, what: &str, numbers: impl Iterator<Item = i64>) {
+    let arrivals: Vec<Arrival> = numbers.map(|n| Arrival::Tick(2013, n)).collect();
+    let start = calls::set_up(&CHANNELS);
+    answers(&start, &arrivals);
+    race_arrivals(bench, what, &start, &arrivals);
+}
+
+pub fn run(bench: &Bench) {
+    race_ticks(bench, "tick in order", 1..=1_000);
     // A far number, then the missing ones from the first on.
-    play("late at a run's end", std::iter::once(1_000).chain(1..1_000).collect());
+    race_ticks(
+        bench,
+        "tick late at a run's end",
+        std::iter::once(1_000).chain(1..1_000),
+    );
     // 3, 1, 2, 6, 4, 5: each third number opens a run, which the next two close.
-    play("gaps opened and closed", (0..333).flat_map(|i| [3 * i + 3, 3 * i + 1, 3 * i + 2]).collect());
+    let gaps = (0..333).flat_map(|i| [3 * i + 3, 3 * i + 1, 3 * i + 2]);
+    race_ticks(bench, "tick, gaps opened and closed", gaps);
 }

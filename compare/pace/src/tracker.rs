@@ -1,15 +1,15 @@
 //! Rust's tracker: an array of structs changed through `&mut`, with rule 10 judged on every call.
-use crate::board::{WriteAnswer, RESEND};
+use crate::calls::{self, WriteAnswer, DUPLICATE, LATE, NOTHING_MISSING, RESEND};
 use crate::writing::{refused, sealed};
 
-#[derive(Clone, Copy, PartialEq, Eq, Default)]
-pub struct Run {
+#[derive(Clone, Copy, Debug, Default, PartialEq, Eq)]
+struct Run {
     first: u64,
     last: u64,
 }
 
-#[derive(Clone, Copy, Default)]
-pub struct Channel {
+#[derive(Clone, Copy, Debug, Default, PartialEq, Eq)]
+struct Channel {
     number: u16,
     highest: u64,
     ended: bool,
@@ -17,7 +17,7 @@ pub struct Channel {
     runs: [Run; 32],
 }
 
-#[derive(Clone, Copy, Default)]
+#[derive(Clone, Copy, Debug, Default, PartialEq, Eq)]
 pub struct Tracker {
     count: usize,
     channels: [Channel; 8],
@@ -36,24 +36,35 @@ impl Channel {
             }
             low = r.last + 2;
         }
-        self.runs[self.count..].iter().fold(0, |bits, r| bits | r.first | r.last) == 0
+        self.runs[self.count..]
+            .iter()
+            .fold(0, |bits, r| bits | r.first | r.last)
+            == 0
     }
 
     fn blank(&self) -> bool {
         self.number == 0 && self.highest == 0 && !self.ended && self.count == 0
     }
 
-    fn above(&mut self, n: u64) -> u32 {
+    /// All numbers from behind the highest to a last one become missing; false where that takes a 33rd run.
+    fn miss(&mut self, last: u64) -> bool {
         let h = self.highest;
-        if h + 1 < n {
+        if h < last {
             if self.count > 0 && self.runs[self.count - 1].last == h {
-                self.runs[self.count - 1].last = n - 1;
+                self.runs[self.count - 1].last = last;
             } else if self.count == 32 {
-                return 9;
+                return false;
             } else {
-                self.runs[self.count] = Run { first: h + 1, last: n - 1 };
+                self.runs[self.count] = Run { first: h + 1, last };
                 self.count += 1;
             }
+        }
+        true
+    }
+
+    fn above(&mut self, n: u64) -> u32 {
+        if !self.miss(n - 1) {
+            return 9;
         }
         self.highest = n;
         0
@@ -77,29 +88,53 @@ impl Channel {
             self.runs[j].last = n - 1;
             self.runs[j + 1].first = n + 1;
         }
-        103
+        LATE
     }
 
     fn tick(&mut self, n: u64) -> u32 {
         if self.highest < n {
             return self.above(n);
         }
-        match self.runs[..self.count].iter().position(|r| r.first <= n && n <= r.last) {
+        match self.runs[..self.count]
+            .iter()
+            .position(|r| r.first <= n && n <= r.last)
+        {
             Some(j) => self.leaves(j, n),
-            None => 104,
+            None => DUPLICATE,
+        }
+    }
+
+    fn heartbeat(&mut self, last: u64, end: bool) -> u32 {
+        if !self.miss(last) {
+            return 9;
+        }
+        self.highest = self.highest.max(last);
+        self.ended |= end;
+        0
+    }
+}
+
+impl From<&calls::Tracker> for Tracker {
+    fn from(t: &calls::Tracker) -> Tracker {
+        let run = |at: usize| Run {
+            first: t.first[at],
+            last: t.last[at],
+        };
+        let channel = |c: usize| Channel {
+            number: t.numbers[c],
+            highest: t.highest[c],
+            ended: t.ended[c] != 0,
+            count: t.counts[c],
+            runs: std::array::from_fn(|r| run(32 * c + r)),
+        };
+        Tracker {
+            count: t.count,
+            channels: std::array::from_fn(channel),
         }
     }
 }
 
 impl Tracker {
-    pub fn set_up() -> Tracker {
-        let mut t = Tracker { count: 8, ..Tracker::default() };
-        for (i, c) in t.channels.iter_mut().enumerate() {
-            c.number = 2011 + i as u16;
-        }
-        t
-    }
-
     fn sound(&self) -> bool {
         if self.count == 0 || self.count > 8 {
             return false;
@@ -111,7 +146,15 @@ impl Tracker {
             }
             low = u32::from(c.number) + 1;
         }
-        self.channels[self.count..].iter().all(|c| c.blank() && c.sound())
+        self.channels[self.count..]
+            .iter()
+            .all(|c| c.blank() && c.sound())
+    }
+
+    fn channel(&mut self, number: u16) -> Option<&mut Channel> {
+        self.channels[..self.count]
+            .iter_mut()
+            .find(|c| c.number == number)
     }
 
     #[inline(never)]
@@ -119,11 +162,22 @@ impl Tracker {
         if !self.sound() {
             return 10;
         }
-        let count = self.count;
-        match self.channels[..count].iter_mut().find(|c| c.number == channel) {
+        match self.channel(channel) {
             None => 7,
             Some(_) if n < 1 => 8,
             Some(c) => c.tick(n as u64),
+        }
+    }
+
+    #[inline(never)]
+    pub fn heartbeat(&mut self, channel: u16, last: i64, end: u8) -> u32 {
+        if !self.sound() {
+            return 10;
+        }
+        match self.channel(channel) {
+            None => 7,
+            Some(_) if last < 0 => 8,
+            Some(c) => c.heartbeat(last as u64, end != 0),
         }
     }
 
@@ -133,11 +187,14 @@ impl Tracker {
         if !self.sound() {
             return refused(10);
         }
-        let Some(c) = self.channels[..self.count].iter().find(|c| c.number == channel) else {
+        let Some(c) = self.channels[..self.count]
+            .iter()
+            .find(|c| c.number == channel)
+        else {
             return refused(7);
         };
         let Some(run) = c.runs[..c.count].first() else {
-            return refused(105);
+            return refused(NOTHING_MISSING);
         };
         if out.len() < 56 {
             return refused(6);

@@ -1,8 +1,8 @@
 //! Orders, trades and snapshots written.
-use crate::board::{self, Order, Snapshot, Trade, WriteAnswer, ORDER, SNAPSHOT, TRADE};
+use crate::calls::{self, Order, Snapshot, Trade, WriteAnswer, ORDER, SNAPSHOT, TRADE};
 use crate::inputs::{self, framed, FIXED_TEXTS, SNAPSHOT_TEXTS};
-use crate::race;
-use crate::ranges::{amount, checksum, entries_end, entries_in, execution, order_type, price, quantity, side, time};
+use crate::race::{Bench, Row};
+use crate::ranges::{checksum, common_in, entries_end, entries_in, order_in, trade_in};
 use std::hint::black_box;
 
 pub fn refused(answer: u32) -> WriteAnswer {
@@ -15,7 +15,10 @@ pub fn sealed(kind: u32, len: usize, out: &mut [u8]) -> WriteAnswer {
     frame[0..4].copy_from_slice(&kind.to_be_bytes());
     frame[4..8].copy_from_slice(&(len as u32).to_be_bytes());
     sum.copy_from_slice(&checksum(frame).to_be_bytes());
-    WriteAnswer { answer: 0, written: 12 + len }
+    WriteAnswer {
+        answer: 0,
+        written: 12 + len,
+    }
 }
 
 #[inline(never)]
@@ -23,7 +26,7 @@ fn order(r: &Order, texts: &[u8], groups: &[u8], out: &mut [u8]) -> WriteAnswer 
     if texts.len() != 15 || !groups.is_empty() {
         return refused(4);
     }
-    if r.number < 1 || !price(r.order_price) || !quantity(r.quantity) || !side(r.side) || !time(r.time) || !order_type(r.order_type) {
+    if !order_in(r) {
         return refused(5);
     }
     if out.len() < 63 {
@@ -46,8 +49,7 @@ fn trade(r: &Trade, texts: &[u8], groups: &[u8], out: &mut [u8]) -> WriteAnswer 
     if texts.len() != 15 || !groups.is_empty() {
         return refused(4);
     }
-    let numbers = r.number >= 1 && r.bid_number >= 0 && r.offer_number >= 0;
-    if !numbers || !price(r.trade_price) || !quantity(r.quantity) || !execution(r.execution) || !time(r.time) {
+    if !trade_in(r) {
         return refused(5);
     }
     if out.len() < 78 {
@@ -73,8 +75,7 @@ fn snapshot(r: &Snapshot, texts: &[u8], groups: &[u8], out: &mut [u8]) -> WriteA
     if texts.len() != 23 || entries_end(groups, 0, r.count) != Some(groups.len()) {
         return refused(4);
     }
-    let numbers = time(c.time) && price(c.previous_close) && c.trade_count >= 0 && quantity(c.volume) && amount(c.amount);
-    if !numbers || !entries_in(groups, 0, r.count) {
+    if !common_in(c) || !entries_in(groups, 0, r.count) {
         return refused(5);
     }
     if len > 16_384 {
@@ -96,37 +97,95 @@ fn snapshot(r: &Snapshot, texts: &[u8], groups: &[u8], out: &mut [u8]) -> WriteA
     sealed(SNAPSHOT, len, out)
 }
 
-type Write<N> = fn(&N, &[u8], &[u8], &mut [u8]) -> WriteAnswer;
+type Writer<N> = fn(&N, &[u8], &[u8], &mut [u8]) -> WriteAnswer;
 
-/// What a writer answers and leaves, by the length of the output.
-fn left<N>(write: Write<N>, r: &N, texts: &[u8], groups: &[u8], room: usize) -> (WriteAnswer, Vec<u8>) {
-    let mut out = vec![0xa5; room];
-    (write(r, texts, groups, &mut out), out)
+/// What a writer is given, and the frame that comes of it.
+struct Draft<'a, N> {
+    numbers: &'a N,
+    texts: &'a [u8],
+    groups: &'a [u8],
+    frame: &'a [u8],
 }
 
-fn race_write<N>(what: &str, turns: u32, (r, texts, groups): (&N, &[u8], &[u8]), frame: &[u8], ours: Write<N>, rust: Write<N>) {
-    for room in 0..frame.len() + 2 {
-        let a = left(ours, r, texts, groups, room);
-        assert_eq!(a, left(rust, r, texts, groups, room));
-        assert_eq!(a.0.answer, if room < frame.len() { 6 } else { 0 });
-        assert!(room < frame.len() || a.1.starts_with(frame));
+impl<N> Draft<'_, N> {
+    fn written(&self, write: Writer<N>, out: &mut [u8]) -> WriteAnswer {
+        write(
+            black_box(self.numbers),
+            black_box(self.texts),
+            black_box(self.groups),
+            black_box(out),
+        )
     }
-    let (mut a, mut b) = (vec![0u8; 4_096], vec![0u8; 4_096]);
-    race(
+
+    /// What a writer answers and leaves, by the length of the output.
+    fn left(&self, write: Writer<N>, room: usize) -> (u32, usize, Vec<u8>) {
+        let mut out = vec![0xa5; room];
+        let told = self.written(write, &mut out);
+        (told.answer, told.written, out)
+    }
+
+    fn agree(&self, ours: Writer<N>, rust: Writer<N>) {
+        for room in 0..self.frame.len() + 2 {
+            let told = self.left(ours, room);
+            assert_eq!(told, self.left(rust, room));
+            assert_eq!(told.0, if room < self.frame.len() { 6 } else { 0 });
+            assert!(told.0 == 6 || told.2.starts_with(self.frame));
+        }
+    }
+
+    fn race(&self, bench: &Bench, row: Row, ours: Writer<N>, rust: Writer<N>) {
+        self.agree(ours, rust);
+        let (mut a, mut b) = (vec![0u8; 4_096], vec![0u8; 4_096]);
+        bench.race(
+            row,
+            || self.written(ours, &mut a),
+            || self.written(rust, &mut b),
+        );
+        assert_eq!(a, b);
+    }
+}
+
+pub fn run(bench: &Bench) {
+    let row = |what, turns| Row {
         what,
         turns,
-        || ours(black_box(r), black_box(texts), black_box(groups), black_box(&mut a)),
-        || rust(black_box(r), black_box(texts), black_box(groups), black_box(&mut b)),
+        parts: 1,
+    };
+    let (texts, groups) = (FIXED_TEXTS, &[]);
+    let frame = &framed(ORDER, &inputs::order_body());
+    Draft {
+        numbers: &inputs::order(),
+        texts,
+        groups,
+        frame,
+    }
+    .race(
+        bench,
+        row("order written", 100_000),
+        calls::write_order,
+        order,
     );
-    assert_eq!(a, b);
-}
-
-pub fn run() {
-    let (o, t, s, entries) = (inputs::order(), inputs::trade(), inputs::snapshot(), inputs::entry_bytes());
-    let order_frame = framed(ORDER, &inputs::order_body());
-    let trade_frame = framed(TRADE, &inputs::trade_body());
-    let snapshot_frame = framed(SNAPSHOT, &inputs::snapshot_body());
-    race_write("order written", 100_000, (&o, FIXED_TEXTS, &[]), &order_frame, board::write_order, order);
-    race_write("trade written", 100_000, (&t, FIXED_TEXTS, &[]), &trade_frame, board::write_trade, trade);
-    race_write("snapshot of 28 entries written", 5_000, (&s, SNAPSHOT_TEXTS, &entries), &snapshot_frame, board::write_snapshot, snapshot);
+    let frame = &framed(TRADE, &inputs::trade_body());
+    Draft {
+        numbers: &inputs::trade(),
+        texts,
+        groups,
+        frame,
+    }
+    .race(
+        bench,
+        row("trade written", 100_000),
+        calls::write_trade,
+        trade,
+    );
+    let (texts, groups) = (SNAPSHOT_TEXTS, &inputs::entry_bytes());
+    let frame = &framed(SNAPSHOT, &inputs::snapshot_body());
+    let row = row("snapshot of 28 entries written", 5_000);
+    Draft {
+        numbers: &inputs::snapshot(),
+        texts,
+        groups,
+        frame,
+    }
+    .race(bench, row, calls::write_snapshot, snapshot);
 }

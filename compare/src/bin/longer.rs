@@ -2,8 +2,8 @@
 //! program second. It prints the table, and fails on a difference and on a
 //! cell that was met too rarely.
 
-use compare::board::Board;
 use compare::compare::compare;
+use compare::product::Product;
 use compare::second::rules::Rules;
 use compare::second::Second;
 use std::process::ExitCode;
@@ -27,7 +27,7 @@ fn main() -> ExitCode {
     };
     let rules = Rules::base();
     let second = Second { rules };
-    match compare(&Board, &second, &rules, inputs, seed) {
+    match compare(&Product, &second, &rules, inputs, seed) {
         Err(difference) => {
             println!("{difference}");
             ExitCode::FAILURE

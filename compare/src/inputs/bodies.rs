@@ -1,7 +1,7 @@
 //! Valid bodies of every type, with random groups and shown quantities.
 
 use super::dice::Dice;
-use crate::second::layout::{layout, width, Field, Layout, Meaning, INDEX, LISTED, QUANTITY};
+use crate::layout::{layout, width, Field, Layout, Meaning, INDEX, LISTED, QUANTITY};
 use crate::second::rules::{Allowed, Rules};
 
 /// A field and its place in a body.

@@ -2,7 +2,7 @@
 
 use super::bodies::{frame_of, Made, Piece};
 use super::dice::Dice;
-use crate::second::layout::Meaning;
+use crate::layout::Meaning;
 use crate::second::rules::Rules;
 
 /// A frame that is cut: in the header, before or in the checksum, anywhere.

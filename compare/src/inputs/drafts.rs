@@ -4,8 +4,8 @@ use super::bodies::{make, unlisted_kind, Made, Wish};
 use super::damage::{a_count, group_hurt, other_count};
 use super::dice::Dice;
 use super::Input;
+use crate::layout::{layout, Layout, LISTED};
 use crate::receiver::NUMBERS;
-use crate::second::layout::{layout, Layout, LISTED};
 use crate::second::record::number;
 use crate::second::rules::Rules;
 

@@ -3,7 +3,7 @@
 
 use super::bodies::{make, time, time_parts, Made, Piece, Wish};
 use super::dice::Dice;
-use crate::second::layout::{layout, Field, Layout, LISTED, QUANTITY};
+use crate::layout::{layout, Field, Layout, LISTED, QUANTITY};
 use crate::second::rules::{Allowed, Rules};
 
 /// Where a field leaves its range.

@@ -11,29 +11,82 @@ const COUNT_LIMIT: usize = usize::MAX;
 const HIGHEST: u64 = i64::MAX as u64;
 
 /// The ways for a tracker to be malformed.
-pub const WAYS: [&str; 21] = [
-    "all zero",
-    "no channel",
-    "more than 8 channels",
-    "channel numbers equal",
-    "channel numbers descending",
-    "unused channel number not zero",
-    "unused highest not zero",
-    "unused ended mark not zero",
-    "unused run count not zero",
-    "unused channel's run not zero",
-    "highest above the limit",
-    "ended mark neither 0 nor 1",
-    "more than 32 runs",
-    "run begins at 0",
-    "run ends above the highest",
-    "run's first above its last",
-    "runs touch",
-    "runs overlap",
-    "runs not ascending",
-    "unused run's first not zero",
-    "unused run's last not zero",
-];
+#[derive(Clone, Copy, PartialEq, Eq, Debug)]
+pub enum Way {
+    AllZero,
+    NoChannel,
+    TooManyChannels,
+    ChannelNumbersEqual,
+    ChannelNumbersDescending,
+    UnusedChannelNumber,
+    UnusedHighest,
+    UnusedEndedMark,
+    UnusedRunCount,
+    UnusedChannelRun,
+    HighestAboveTheLimit,
+    OtherEndedMark,
+    TooManyRuns,
+    RunBeginsAtZero,
+    RunEndsAboveTheHighest,
+    RunFirstAboveItsLast,
+    RunsTouch,
+    RunsOverlap,
+    RunsNotAscending,
+    UnusedRunFirst,
+    UnusedRunLast,
+}
+
+impl Way {
+    pub const ALL: [Way; 21] = [
+        Way::AllZero,
+        Way::NoChannel,
+        Way::TooManyChannels,
+        Way::ChannelNumbersEqual,
+        Way::ChannelNumbersDescending,
+        Way::UnusedChannelNumber,
+        Way::UnusedHighest,
+        Way::UnusedEndedMark,
+        Way::UnusedRunCount,
+        Way::UnusedChannelRun,
+        Way::HighestAboveTheLimit,
+        Way::OtherEndedMark,
+        Way::TooManyRuns,
+        Way::RunBeginsAtZero,
+        Way::RunEndsAboveTheHighest,
+        Way::RunFirstAboveItsLast,
+        Way::RunsTouch,
+        Way::RunsOverlap,
+        Way::RunsNotAscending,
+        Way::UnusedRunFirst,
+        Way::UnusedRunLast,
+    ];
+
+    pub fn name(self) -> &'static str {
+        match self {
+            Way::AllZero => "all zero",
+            Way::NoChannel => "no channel",
+            Way::TooManyChannels => "more than 8 channels",
+            Way::ChannelNumbersEqual => "channel numbers equal",
+            Way::ChannelNumbersDescending => "channel numbers descending",
+            Way::UnusedChannelNumber => "unused channel number not zero",
+            Way::UnusedHighest => "unused highest not zero",
+            Way::UnusedEndedMark => "unused ended mark not zero",
+            Way::UnusedRunCount => "unused run count not zero",
+            Way::UnusedChannelRun => "unused channel's run not zero",
+            Way::HighestAboveTheLimit => "highest above the limit",
+            Way::OtherEndedMark => "ended mark neither 0 nor 1",
+            Way::TooManyRuns => "more than 32 runs",
+            Way::RunBeginsAtZero => "run begins at 0",
+            Way::RunEndsAboveTheHighest => "run ends above the highest",
+            Way::RunFirstAboveItsLast => "run's first above its last",
+            Way::RunsTouch => "runs touch",
+            Way::RunsOverlap => "runs overlap",
+            Way::RunsNotAscending => "runs not ascending",
+            Way::UnusedRunFirst => "unused run's first not zero",
+            Way::UnusedRunLast => "unused run's last not zero",
+        }
+    }
+}
 
 /// Channel numbers, strictly ascending.
 fn channels(dice: &mut Dice, count: usize) -> Vec<u16> {
@@ -277,7 +330,7 @@ pub fn good(dice: &mut Dice) -> Input {
 /// A tracker malformed in one way, each way in turn, and each call on it;
 /// some calls would be refused for other reasons too.
 pub fn malformed(dice: &mut Dice, turn: u64) -> Input {
-    let way = (turn % WAYS.len() as u64) as usize;
+    let way = Way::ALL[(turn % Way::ALL.len() as u64) as usize];
     let count = 2 + dice.below(6) as usize;
     let mut tracker = tracker(dice, count, 2, RUNS - 1);
     spoil(dice, way, &mut tracker);
@@ -301,59 +354,59 @@ pub fn malformed(dice: &mut Dice, turn: u64) -> Input {
 }
 
 /// Spoils a tracker of 2 to 7 channels with 2 to 31 runs each.
-fn spoil(dice: &mut Dice, way: usize, tracker: &mut Tracker) {
+fn spoil(dice: &mut Dice, way: Way, tracker: &mut Tracker) {
     let count = tracker.count;
     let unused = count + dice.below((CHANNELS - count) as u64) as usize;
     let used = dice.below(count as u64) as usize;
-    match WAYS[way] {
-        "all zero" => *tracker = Tracker::ZERO,
-        "no channel" => tracker.count = 0,
-        "more than 8 channels" => {
+    match way {
+        Way::AllZero => *tracker = Tracker::ZERO,
+        Way::NoChannel => tracker.count = 0,
+        Way::TooManyChannels => {
             tracker.count = dice.pick(&[9, 10, 16, 255, 256, 1 << 32, COUNT_LIMIT])
         }
-        "channel numbers equal" => tracker.numbers[1] = tracker.numbers[0],
-        "channel numbers descending" => tracker.numbers.swap(count - 2, count - 1),
-        "unused channel number not zero" => tracker.numbers[unused] = 1 + dice.below(65_535) as u16,
-        "unused highest not zero" => tracker.highest[unused] = 1 + dice.wide() % HIGHEST,
-        "unused ended mark not zero" => tracker.ended[unused] = 1,
-        "unused run count not zero" => {
+        Way::ChannelNumbersEqual => tracker.numbers[1] = tracker.numbers[0],
+        Way::ChannelNumbersDescending => tracker.numbers.swap(count - 2, count - 1),
+        Way::UnusedChannelNumber => tracker.numbers[unused] = 1 + dice.below(65_535) as u16,
+        Way::UnusedHighest => tracker.highest[unused] = 1 + dice.wide() % HIGHEST,
+        Way::UnusedEndedMark => tracker.ended[unused] = 1,
+        Way::UnusedRunCount => {
             tracker.counts[unused] = dice.pick(&[1, 2, 32, 33, 1 << 32, COUNT_LIMIT])
         }
-        "unused channel's run not zero" => {
+        Way::UnusedChannelRun => {
             let place = unused * RUNS + dice.below(RUNS as u64) as usize;
             spoil_place(dice, tracker, place);
         }
-        "highest above the limit" => {
+        Way::HighestAboveTheLimit => {
             tracker.highest[used] = dice.pick(&[HIGHEST + 1, HIGHEST + 2, u64::MAX])
         }
-        "ended mark neither 0 nor 1" => tracker.ended[used] = dice.pick(&[2, 3, 128, 255]),
-        "more than 32 runs" => {
+        Way::OtherEndedMark => tracker.ended[used] = dice.pick(&[2, 3, 128, 255]),
+        Way::TooManyRuns => {
             tracker.counts[used] = dice.pick(&[33, 34, 64, 255, 256, 1 << 32, COUNT_LIMIT])
         }
-        _ => spoil_runs(dice, WAYS[way], tracker, used),
+        _ => spoil_runs(dice, way, tracker, used),
     }
 }
 
 /// Spoils the runs of a channel in use.
-fn spoil_runs(dice: &mut Dice, way: &str, tracker: &mut Tracker, used: usize) {
+fn spoil_runs(dice: &mut Dice, way: Way, tracker: &mut Tracker, used: usize) {
     let runs = tracker.counts[used];
     let one = used * RUNS + dice.below(runs as u64 - 1) as usize;
     let unused = used * RUNS + runs + dice.below((RUNS - runs) as u64) as usize;
     match way {
-        "run begins at 0" => tracker.first[used * RUNS] = 0,
-        "run ends above the highest" => {
+        Way::RunBeginsAtZero => tracker.first[used * RUNS] = 0,
+        Way::RunEndsAboveTheHighest => {
             let last = tracker.last[used * RUNS + runs - 1];
             let low = [last - 1, last / 2, 0];
             tracker.highest[used] = dice.pick(&low).min(last - 1);
         }
-        "run's first above its last" => tracker.first[one] = tracker.last[one] + 1,
-        "runs touch" => tracker.last[one] = tracker.first[one + 1] - 1,
-        "runs overlap" => tracker.last[one] = tracker.first[one + 1],
-        "runs not ascending" => {
+        Way::RunFirstAboveItsLast => tracker.first[one] = tracker.last[one] + 1,
+        Way::RunsTouch => tracker.last[one] = tracker.first[one + 1] - 1,
+        Way::RunsOverlap => tracker.last[one] = tracker.first[one + 1],
+        Way::RunsNotAscending => {
             tracker.first.swap(one, one + 1);
             tracker.last.swap(one, one + 1);
         }
-        "unused run's first not zero" => tracker.first[unused] = 1 + dice.wide() % HIGHEST,
+        Way::UnusedRunFirst => tracker.first[unused] = 1 + dice.wide() % HIGHEST,
         _ => tracker.last[unused] = 1 + dice.wide() % HIGHEST,
     }
 }

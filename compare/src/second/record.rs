@@ -1,8 +1,9 @@
 //! Records: the listed types with their ranges, and groups by position.
 
 use super::frame::four;
-use super::layout::{layout, width, Field, Layout, QUANTITY, SECURITY_STATUS, STATISTICS};
+use super::layout::{layout, wide, width, Layout, SECURITY_STATUS, STATISTICS};
 use super::rules::Rules;
+use crate::layout::Meaning;
 use crate::receiver::{Found, Group, ReadAnswer, Record, NUMBERS, TEXTS};
 
 /// Reads a body by its type: unknown, 4, 5 or the record.
@@ -94,25 +95,25 @@ pub fn group_in_range(rules: &Rules, layout: &Layout, group: &[u8]) -> Result<()
     let (fields, shown) = group.split_at(width(layout.group));
     fields_in_range(rules, layout.group, fields)?;
     for quantity in shown.chunks(8) {
-        field_in_range(rules, &QUANTITY, quantity)?;
+        field_in_range(rules, Meaning::Quantity, quantity)?;
     }
     Ok(())
 }
 
 /// 5 if one of the fields is out of range.
-fn fields_in_range(rules: &Rules, fields: &[Field], bytes: &[u8]) -> Result<(), u32> {
+fn fields_in_range(rules: &Rules, fields: &[Meaning], bytes: &[u8]) -> Result<(), u32> {
     let mut place = 0;
     for field in fields {
-        let end = place + field.meaning.width();
-        field_in_range(rules, field, &bytes[place..end])?;
+        let end = place + wide(*field);
+        field_in_range(rules, *field, &bytes[place..end])?;
         place = end;
     }
     Ok(())
 }
 
 /// 5 if the field is out of range. A text is free.
-fn field_in_range(rules: &Rules, field: &Field, bytes: &[u8]) -> Result<(), u32> {
-    if field.meaning.is_text() || rules.allows(field.meaning, number(bytes)) {
+fn field_in_range(rules: &Rules, field: Meaning, bytes: &[u8]) -> Result<(), u32> {
+    if field.is_text() || rules.allows(field, number(bytes)) {
         return Ok(());
     }
     Err(5)
@@ -135,9 +136,9 @@ fn record(layout: &Layout, body: &[u8]) -> Record {
     };
     let (mut place, mut numbers, mut texts) = (0, 0, 0);
     for field in layout.fields {
-        let width = field.meaning.width();
+        let width = wide(*field);
         let bytes = &body[place..place + width];
-        if field.meaning.is_text() {
+        if field.is_text() {
             record.texts[texts..texts + width].copy_from_slice(bytes);
             texts += width;
         } else {

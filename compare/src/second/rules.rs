@@ -1,7 +1,7 @@
 //! All limits, ranges and marks of document 01, in one struct: a change
 //! request is a line here.
 
-use super::layout::Meaning;
+use crate::layout::Meaning;
 
 /// Limits, ranges (both ends included) and marks.
 #[derive(Clone, Copy, PartialEq, Eq, Debug)]

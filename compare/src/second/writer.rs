@@ -1,9 +1,10 @@
 //! The writer: fixed fields as numbers, texts and groups as lent bytes.
 
 use super::frame::{checksum, AROUND, HEADER};
-use super::layout::{layout, Field, Layout, Meaning};
+use super::layout::{layout, wide, Layout};
 use super::record::{groups_end, groups_in_range};
 use super::rules::Rules;
+use crate::layout::Meaning;
 use crate::receiver::{Draft, WriteAnswer};
 
 /// Writes a frame: 5 for the type, then 4, 5, 2, 6. A refusal leaves the
@@ -58,11 +59,8 @@ fn exactly_the_fields(layout: &Layout, draft: &Draft) -> Result<(), u32> {
 }
 
 /// The fields that come as numbers.
-fn number_fields(layout: &Layout) -> impl Iterator<Item = &'static Field> {
-    layout
-        .fields
-        .iter()
-        .filter(|field| !field.meaning.is_text())
+fn number_fields(layout: &Layout) -> impl Iterator<Item = &'static Meaning> {
+    layout.fields.iter().filter(|field| !field.is_text())
 }
 
 /// The stated group count, the last fixed field; 0 without groups.
@@ -76,7 +74,7 @@ fn stated_count(layout: &Layout, draft: &Draft) -> u32 {
 /// 5 if a fixed field is out of range.
 fn numbers_in_range(rules: &Rules, layout: &Layout, draft: &Draft) -> Result<(), u32> {
     for (field, number) in number_fields(layout).zip(draft.numbers) {
-        if !rules.allows(field.meaning, number) {
+        if !rules.allows(*field, number) {
             return Err(5);
         }
     }
@@ -89,9 +87,9 @@ fn write_body(layout: &Layout, draft: &Draft, body: &mut [u8]) {
     let mut texts = draft.texts;
     let mut place = 0;
     for field in layout.fields {
-        let width = field.meaning.width();
+        let width = wide(*field);
         let target = &mut body[place..place + width];
-        if let Meaning::Text(_) = field.meaning {
+        if field.is_text() {
             let (text, rest) = texts.split_at(width);
             target.copy_from_slice(text);
             texts = rest;

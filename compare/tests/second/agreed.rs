@@ -2,9 +2,9 @@
 //! be reached is met.
 
 use super::second;
-use compare::board::Board;
 use compare::compare::compare;
 use compare::inputs::Inputs;
+use compare::product::Product;
 use std::io::Write;
 
 const SEED: u64 = 20_170_401;
@@ -22,7 +22,7 @@ fn inputs() -> u64 {
 fn product_and_second_program_agree() {
     let second = second();
     let inputs = inputs();
-    let table = match compare(&Board, &second, &second.rules, inputs, SEED) {
+    let table = match compare(&Product, &second, &second.rules, inputs, SEED) {
         Ok(table) => table,
         Err(difference) => panic!("{difference}"),
     };
@@ -37,7 +37,7 @@ fn product_and_second_program_agree() {
 #[test]
 fn few_inputs_leave_cells_unmet() {
     let second = second();
-    let Ok(table) = compare(&Board, &second, &second.rules, 1_000, SEED) else {
+    let Ok(table) = compare(&Product, &second, &second.rules, 1_000, SEED) else {
         panic!("a difference");
     };
     assert!(!table.faults(LEAST).is_empty());

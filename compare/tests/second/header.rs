@@ -1,7 +1,7 @@
 //! The Rust declarations are the C header's.
 
-use compare::board::header::{numbers, prototypes, structs};
-use compare::second::layout::{Field, LISTED};
+use compare::layout::{Field, LISTED};
+use compare::product::header::{numbers, prototypes, structs, version};
 use std::collections::BTreeSet;
 use std::path::{Path, PathBuf};
 use std::process::Command;
@@ -73,6 +73,17 @@ fn words<'a>(text: &'a str, start: &str) -> BTreeSet<&'a str> {
 #[test]
 fn declarations_are_the_headers() {
     assert_eq!(said("declared.c", &declared()), "");
+}
+
+#[test]
+fn the_version_is_one() {
+    let version = version();
+    let line = format!("#define ORIZHGUM_VERSION \"{version}\"\n");
+    assert!(header().contains(&line), "{line}");
+    let changes = std::fs::read_to_string(include().join("../CHANGELOG.md"));
+    let changes = changes.expect("the changes");
+    let newest = changes.lines().find(|line| line.starts_with("## "));
+    assert_eq!(newest, Some(format!("## {version}").as_str()));
 }
 
 #[test]

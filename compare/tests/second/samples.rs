@@ -3,7 +3,7 @@
 
 use super::second;
 use super::text::{listing, showing};
-use compare::board::Board;
+use compare::product::Product;
 use compare::receiver::Receiver;
 use std::fs;
 use std::path::{Path, PathBuf};
@@ -35,7 +35,7 @@ fn same_text(path: &Path, told: &str, expected: &str) {
 
 /// The second program and the product.
 fn both() -> [Box<dyn Receiver>; 2] {
-    [Box::new(second()), Box::new(Board)]
+    [Box::new(second()), Box::new(Product)]
 }
 
 /// Both receivers list a capture so.

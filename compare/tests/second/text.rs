@@ -1,7 +1,7 @@
 //! Listing and decoding as text, by the samples' README, over any receiver.
 
+use compare::layout::{layout, Field, Layout, Meaning};
 use compare::receiver::{Entry, Found, FrameAnswer, Group, ReadAnswer, Receiver, Record, Says};
-use compare::second::layout::{layout, Field, Layout, Meaning};
 use compare::second::rules::Rules;
 
 /// The listing: offset, type, body length of each frame, and the last line.

@@ -13,10 +13,10 @@ use lib.Seq.{take-all, drop-at}
 use Rattle.wire.specs.Answer.{accepted, guard}
 use Rattle.wire.specs.Bytes.{Bytes}
 use Rattle.layout.specs.Layout.{Message, heartbeat, channelHeartbeat, resend, statistics, securityStatus, snapshot, index, volumeIndex, order, trade, fields, size, values, texts}
-use Rattle.layout.specs.Group.{place, fit, groupRanges, group, start, count, whole, inRange, judged}
+use Rattle.layout.specs.Group.{groupOffset, fit, groupRanges, group, groupsStart, count, whole, inRange, judgeBody, even}
 use Rattle.layout.proofs.Walk.{and-both, good}
 use Rattle.record.specs.Record.{groupsAs}
-use Rattle.bodies.specs.Body.{Numbers, encode, body, bodyLength, textSize, stated, even, exact, numbersIn, allIn}
+use Rattle.bodies.specs.Body.{Numbers, encode, body, bodyLength, textSize, stated, exact, numbersIn, allIn}
 use Rattle.bodies.proofs.Round.{round, length-encode, again}
 use Rattle.bodies.proofs.Numbers.{count-back, numbers-read, texts-read}
 use Rattle.bodies.proofs.Shift.{Counts, fit-shift, place-shift, groupRanges-shift}
@@ -47,37 +47,37 @@ pub record Same (m : Message) (zs : List ℤ) (ts gs b : List ℕ) : Type 0 wher
   pub counted : count m b ≡ stated m zs
   pub there : whole m b ≡ fit (group m) gs 0 (stated m zs)
   pub inside : inRange m b ≡ allIn m zs gs
-  pub ends : place (group m) b (start m) (count m b) ≡ start m + place (group m) gs 0 (stated m zs)
+  pub ends : groupOffset (group m) b (groupsStart m) (count m b) ≡ groupsStart m + groupOffset (group m) gs 0 (stated m zs)
   pub numbers : values (fields m) b 0 ≡ zs
   pub wording : texts (fields m) b 0 ≡ ts
-  pub behind : drop (start m) b ≡ gs
+  pub behind : drop (groupsStart m) b ≡ gs
 
 pub same : (m : Message) {zs : List ℤ} (ts gs : List ℕ) → Numbers (fields m) zs → length ts ≡ textSize (fields m) → Same m zs ts gs (body m zs ts gs)
 unfolding body
 same m {zs} ts gs g h =
     let a : List ℕ = encode (fields m) zs ts in
-    let n : length a ≡ start m = length-encode (fields m) zs ts h in
-    let p : start m ≡ length a + 0 = omega arith in
+    let n : length a ≡ groupsStart m = length-encode (fields m) zs ts h in
+    let p : groupsStart m ≡ length a + 0 = omega arith in
     let r = round ts [] gs g h in
     let k : ℕ = stated m zs in
     let e : count m (a ++ gs) ≡ k = count-back ts gs m g h in
-    let l : length (a ++ gs) ≡ start m + length gs = length-append a gs ∙ rw n in
+    let l : length (a ++ gs) ≡ groupsStart m + length gs = length-append a gs ∙ rw n in
     record {
       long = l;
       counted = e;
-      there = rw (e, le-leb (start m) (length (a ++ gs)) (omega arith)) (ap (λ (x : ℕ). fit (group m) (a ++ gs) x k) p ∙ fit-shift a gs (group m) (counts m) 0 k);
+      there = rw (e, le-leb (groupsStart m) (length (a ++ gs)) (omega arith)) (ap (λ (x : ℕ). fit (group m) (a ++ gs) x k) p ∙ fit-shift a gs (group m) (counts m) 0 k);
       inside = rw (e, r .inside) (ap (λ (x : ℕ). numbersIn (fields m) zs && groupRanges (group m) (a ++ gs) x k) p ∙ rw (groupRanges-shift a gs (group m) (counts m) 0 k));
-      ends = rw e (ap (λ (x : ℕ). place (group m) (a ++ gs) x k) p ∙ place-shift a gs (group m) (counts m) 0 k ∙ rw n);
+      ends = rw e (ap (λ (x : ℕ). groupOffset (group m) (a ++ gs) x k) p ∙ place-shift a gs (group m) (counts m) 0 k ∙ rw n);
       numbers = r .numbers;
       wording = r .wording;
-      behind = drop-at a gs (start m) n;
+      behind = drop-at a gs (groupsStart m) n;
     }
 
 -- what exact texts and groups say
 pub record Exact (m : Message) (zs : List ℤ) (ts gs : List ℕ) : Type 0 where
   pub texts : length ts ≡ textSize (fields m)
   pub fits : fit (group m) gs 0 (stated m zs) ≡ true
-  pub ends : place (group m) gs 0 (stated m zs) ≡ length gs
+  pub ends : groupOffset (group m) gs 0 (stated m zs) ≡ length gs
 
 pub exactly : (m : Message) (zs : List ℤ) (ts gs : List ℕ) → exact m zs ts gs ≡ true → Exact m zs ts gs
 unfolding even
@@ -92,19 +92,19 @@ is-exact m zs ts gs x = rw (eq-eqb _ _ (x .texts), x .fits, eq-eqb _ _ (x .ends)
 
 -- a body whose parts are exact and in range is accepted, and its groups are those that were lent
 pub record Read (m : Message) (zs : List ℤ) (ts gs b : List ℕ) : Type 0 where
-  pub accepts : judged m b ≡ accepted tt
+  pub accepts : judgeBody m b ≡ accepted tt
   pub numbers : values (fields m) b 0 ≡ zs
   pub wording : texts (fields m) b 0 ≡ ts
   pub groups : groupsAs m b ≡ gs
 
 pub reads : (m : Message) {zs : List ℤ} (ts gs : List ℕ) → Numbers (fields m) zs → exact m zs ts gs ≡ true → allIn m zs gs ≡ true → Read m zs ts gs (body m zs ts gs)
-unfolding judged groupsAs guard
+unfolding judgeBody groupsAs guard
 reads m {zs} ts gs g e i =
     let b : List ℕ = body m zs ts gs in
     let x = exactly m zs ts gs e in
     let s = same m ts gs g (x .texts) in
-    let j : judged m b ≡ accepted tt = rw (s .there, s .inside, x .fits, i) in
-    let p : place (group m) b (start m) (count m b) - start m ≡ length gs = rw (s .ends, x .ends) (omega arith) in
+    let j : judgeBody m b ≡ accepted tt = rw (s .there, s .inside, x .fits, i) in
+    let p : groupOffset (group m) b (groupsStart m) (count m b) - groupsStart m ≡ length gs = rw (s .ends, x .ends) (omega arith) in
     record {
       accepts = j;
       numbers = s .numbers;
@@ -121,20 +121,20 @@ pub record Again (m : Message) (s : List ℕ) : Type 0 where
   pub exacts : exact m (values (fields m) s 0) (texts (fields m) s 0) (groupsAs m s) ≡ true
   pub inside : allIn m (values (fields m) s 0) (groupsAs m s) ≡ true
 
-pub again-from : (m : Message) (s : List ℕ) → Bytes s → judged m s ≡ accepted tt → place (group m) s (start m) (count m s) ≡ length s → Again m s
-unfolding judged groupsAs body
+pub again-from : (m : Message) (s : List ℕ) → Bytes s → judgeBody m s ≡ accepted tt → groupOffset (group m) s (groupsStart m) (count m s) ≡ length s → Again m s
+unfolding judgeBody groupsAs body
 again-from m s b e t =
     let zs : List ℤ = values (fields m) s 0 in
     let ts : List ℕ = texts (fields m) s 0 in
-    let gs : List ℕ = drop (start m) s in
+    let gs : List ℕ = drop (groupsStart m) s in
     let v = good (whole m s) (inRange m s) e in
-    let w = and-both (leb (start m) (length s)) _ (v .all) in
-    let l : start m ≤ length s = leb-true _ _ (w .0) in
-    let g : groupsAs m s ≡ gs = rw (e, t) (take-all (length s - start m) (drop (start m) s) (rw length-drop (omega arith))) in
+    let w = and-both (leb (groupsStart m) (length s)) _ (v .all) in
+    let l : groupsStart m ≤ length s = leb-true _ _ (w .0) in
+    let g : groupsAs m s ≡ gs = rw (e, t) (take-all (length s - groupsStart m) (drop (groupsStart m) s) (rw length-drop (omega arith))) in
     let n : Numbers (fields m) zs = numbers-read (fields m) s 0 b (omega arith) in
     let h : length ts ≡ textSize (fields m) = texts-read (fields m) s 0 (omega arith) in
     let p : body m zs ts gs ≡ s =
-    ap (λ (x : List ℕ). x ++ gs) (again (fields m) s 0 b (omega arith)) ∙ take-append-drop (start m) s
+    ap (λ (x : List ℕ). x ++ gs) (again (fields m) s 0 b (omega arith)) ∙ take-append-drop (groupsStart m) s
     in
     let r : Same m zs ts gs s = rw p at (same m ts gs n h) in
     let x : Exact m zs ts gs =

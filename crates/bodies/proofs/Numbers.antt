@@ -15,7 +15,7 @@ use Rattle.wire.proofs.Digits.{be-bound, bytes-take, bytes-drop}
 use Rattle.layout.specs.Kind.{Kind, channel, number, lastNumber, firstNumber, bidNumber, offerNumber, orderPrice, tradePrice, previousClose, entryPrice, quantity, amount, tradeCount, orderCount, time, side, orderType, execution, entryType, level, groupCount, stockNumber, switchType, yesNo, resendType, status, text, Text, security, source, financialStatus, unsigned, signed, form, width}
 use Rattle.layout.specs.Layout.{Message, heartbeat, channelHeartbeat, resend, statistics, securityStatus, snapshot, index, volumeIndex, order, trade, fields, commonPart, size, values, texts}
 use Rattle.layout.specs.Group.{count}
-use Rattle.bodies.specs.Body.{Holds, plain, sign, Numbers, none, words, bits, last, encode, textSize, stated}
+use Rattle.bodies.specs.Body.{CanHold, plain, sign, Numbers, none, words, bits, last, encode, textSize, stated}
 use Rattle.bodies.specs.Body as body-of
 use Rattle.bodies.proofs.Round.{round}
 
@@ -68,11 +68,11 @@ one-more :
 unfolding values
 one-more ks s at b h (unsigned-by {k} {w} e) rest =
     let l : beAt s at w < 256 ^ w = beAt-bound s at w b (rw e at h) in
-    let o : Holds (form k) (pos (beAt s at w)) = rw e (plain l) in
+    let o : CanHold (form k) (pos (beAt s at w)) = rw e (plain l) in
     rw e (body-of.number o (rw e at rest))
 one-more ks s at b h (signed-by {k} e) rest =
     let l : Fits w64 (beAt s at 8) = record { fits = beAt-bound s at 8 b (rw e at h) } in
-    let o : Holds (form k) (toZ w64 (beAt s at 8)) = rw e (sign (sfits-toZ l)) in
+    let o : CanHold (form k) (toZ w64 (beAt s at 8)) = rw e (sign (sfits-toZ l)) in
     rw e (body-of.number o (rw e at rest))
 one-more ks s at b h a-text rest = words rest
 

@@ -10,17 +10,17 @@ use lib.ListN.{length}
 use Rattle.wire.specs.Answer.{Answer, accepted, refused, guard}
 use Rattle.wire.specs.Refusal.{notItsLayout}
 use Rattle.layout.specs.Layout.{Message, fields}
-use Rattle.layout.specs.Group.{place, fit, groupRanges, group, verdict, also, judgedAll, noGroup}
-use Rattle.bodies.specs.Body.{textSize, stated, even, numbersIn}
-use Rattle.bodies.specs.Parts.{judgedParts}
+use Rattle.layout.specs.Group.{groupOffset, fit, groupRanges, group, verdict, also, judgeAll, noGroup, even}
+use Rattle.bodies.specs.Body.{textSize, stated, numbersIn}
+use Rattle.bodies.specs.Parts.{verdictOf}
 
 -- a type without groups
-pub none-even : (gs : List ℕ) → length gs ≡ 0 → accepted tt ≡ judgedAll noGroup gs 0
-unfolding judgedAll fit place groupRanges guard
+pub none-even : (gs : List ℕ) → length gs ≡ 0 → accepted tt ≡ judgeAll noGroup gs 0
+unfolding judgeAll even fit groupOffset groupRanges guard
 none-even gs h = rw h
 
-pub none-odd : (gs : List ℕ) → (length gs ≡ 0 → ⊥) → refused notItsLayout [] ≡ judgedAll noGroup gs 0
-unfolding judgedAll fit place groupRanges guard
+pub none-odd : (gs : List ℕ) → (length gs ≡ 0 → ⊥) → refused notItsLayout [] ≡ judgeAll noGroup gs 0
+unfolding judgeAll even fit groupOffset groupRanges guard
 none-odd gs h = rw (ne-eqb 0 (length gs) (λ e. h (sym e)))
 
 -- a type without numbers
@@ -42,15 +42,15 @@ both false false true = refl
 both false false false = refl
 
 module _ (m : Message) (zs : List ℤ) (ts gs : List ℕ) where
-  pub other-words : (length ts ≡ textSize (fields m) → ⊥) → refused notItsLayout [] ≡ judgedParts m zs ts gs
-  unfolding judgedParts guard
+  pub other-words : (length ts ≡ textSize (fields m) → ⊥) → refused notItsLayout [] ≡ verdictOf m zs ts gs
+  unfolding verdictOf guard
   other-words h = rw (ne-eqb (length ts) (textSize (fields m)) h)
 
   -- its texts, then the verdict on the groups, and whether the fixed fields are in range
   pub parts :
       length ts ≡ textSize (fields m) → {v w : Answer Unit} {b : Bool} → v ≡ also b w → b ≡ numbersIn (fields m) zs →
-      w ≡ judgedAll (group m) gs (stated m zs) → v ≡ judgedParts m zs ts gs
-  unfolding judgedParts judgedAll even
+      w ≡ judgeAll (group m) gs (stated m zs) → v ≡ verdictOf m zs ts gs
+  unfolding verdictOf judgeAll even
   parts h e f g =
       e
       ∙ (λ i. also (f i) (g i))

@@ -16,7 +16,7 @@ use Rattle.wire.proofs.Be.{beAt-between}
 use Rattle.wire.proofs.Digits.{length-digits, be-digits, be-bound, digits-beAt, bytes-take, bytes-drop}
 use Rattle.layout.specs.Kind.{Kind, Form, unsigned, signed, written, form, bytes, width, characters, ranged}
 use Rattle.layout.specs.Layout.{size, ranges, valueAt, values, textAt, texts, textsBehind}
-use Rattle.bodies.specs.Body.{Holds, plain, sign, Numbers, none, number, words, bits, first, numbersBehind, fieldBytes, encode, textWidth, textSize, numbersIn}
+use Rattle.bodies.specs.Body.{CanHold, plain, sign, Numbers, none, number, words, bits, first, numbersBehind, fieldBytes, encode, textWidth, textSize, numbersIn}
 
 -- ---- one fixed field that holds a number
 
@@ -29,7 +29,7 @@ pub record Fixed (f : Form) (z : ℤ) : Type 0 where
   pub no-width : textWidth f ≡ 0
   pub back : (s : List ℕ) (at : ℕ) → beAt s at (bytes f) ≡ bits z → valueAt f s at ≡ z ∷ []
 
-fixed : {f : Form} {z : ℤ} → Holds f z → Fixed f z
+fixed : {f : Form} {z : ℤ} → CanHold f z → Fixed f z
 fixed (plain h) =
     record {
       bound = h;

@@ -12,7 +12,7 @@ use borrow.Author.Tests.{le-leb, lt-leb, leb-true, leb-false}
 use Rattle.wire.specs.Bytes.{beAt}
 use Rattle.layout.specs.Kind.{Kind, width}
 use Rattle.layout.specs.Layout.{Group, size, ranges}
-use Rattle.layout.specs.Group.{shown, shownPlace, next, place, fit, quantities, groupRanges}
+use Rattle.layout.specs.Group.{shown, shownOffset, nextOffset, groupOffset, fit, quantities, groupRanges}
 
 -- a group whose shown count, where it has one, stands within its fields
 abbrev pub Counts : Group → Type 0
@@ -54,31 +54,31 @@ module _ (a s : List ℕ) where
     shown-shift : (at : ℕ) → shown g (a ++ s) (length a + at) ≡ shown g s at
     shown-shift at = shown-by (g .shows) refl at
 
-    next-shift : (at : ℕ) → next g (a ++ s) (length a + at) ≡ length a + next g s at
+    next-shift : (at : ℕ) → nextOffset g (a ++ s) (length a + at) ≡ length a + nextOffset g s at
     next-shift at = rw (shown-shift at) (omega arith)
 
-    pub place-shift : (at i : ℕ) → place g (a ++ s) (length a + at) i ≡ length a + place g s at i
-    unfolding place
+    pub place-shift : (at i : ℕ) → groupOffset g (a ++ s) (length a + at) i ≡ length a + groupOffset g s at i
+    unfolding groupOffset
     place-shift at zero = refl
-    place-shift at (suc i) = rw (next-shift at) (place-shift (next g s at) i)
+    place-shift at (suc i) = rw (next-shift at) (place-shift (nextOffset g s at) i)
 
     pub fit-shift : (at k : ℕ) → fit g (a ++ s) (length a + at) k ≡ fit g s at k
     unfolding fit
     fit-shift at zero = refl
     fit-shift at (suc k) =
-        let e : shownPlace g (length a + at) ≡ length a + shownPlace g at = omega arith in
-        rw (next-shift at, e, leb-shift (shownPlace g at), leb-shift (next g s at), fit-shift (next g s at) k)
+        let e : shownOffset g (length a + at) ≡ length a + shownOffset g at = omega arith in
+        rw (next-shift at, e, leb-shift (shownOffset g at), leb-shift (nextOffset g s at), fit-shift (nextOffset g s at) k)
 
     pub groupRanges-shift : (at k : ℕ) → groupRanges g (a ++ s) (length a + at) k ≡ groupRanges g s at k
     unfolding groupRanges
     groupRanges-shift at zero = refl
     groupRanges-shift at (suc k) =
-        let e : shownPlace g (length a + at) ≡ length a + shownPlace g at = omega arith in
+        let e : shownOffset g (length a + at) ≡ length a + shownOffset g at = omega arith in
         rw (
           next-shift at,
           e,
           shown-shift at,
           ranges-shift (g .fields) at,
-          quantities-shift (shown g s at) (shownPlace g at),
-          groupRanges-shift (next g s at) k,
+          quantities-shift (shown g s at) (shownOffset g at),
+          groupRanges-shift (nextOffset g s at) k,
         )

@@ -14,12 +14,12 @@ use lib.Seq.{drop-drop, take-add, take-all, length-take-le}
 use mir.Syntax.{w64}
 use mir.Val.{toZ, ofZ}
 use mir.Facts.{toZ-ofZ}
-use Rattle.wire.specs.Bytes.{digits, splice, placed}
+use Rattle.wire.specs.Bytes.{digits, splice, putAt}
 use Rattle.wire.proofs.Place.{placed-fits, length-splice, splice-more}
 use Rattle.layout.specs.Kind.{Kind, text, Text, Form, unsigned, signed, written, form, width, characters}
 use Rattle.layout.specs.Layout.{Message, snapshot, index, volumeIndex, fields, size, textsBehind}
 use Rattle.bodies.specs.Body.{numbersBehind, fieldBytes, encode, textWidth, textSize}
-use Rattle.bodies.specs.Parts.{stored}
+use Rattle.bodies.specs.Parts.{putFields}
 use Rattle.bodies.proofs.Round.{length-field, length-encode, length-behind}
 
 texts-from : (f : Form) (ts : List ℕ) (p : ℕ) → textsBehind f (drop p ts) ≡ drop (p + textWidth f) ts
@@ -37,7 +37,7 @@ done {zs} {ts} {p} {y} {n} =
     record { is = λ h t. let e : n + 0 ≡ n = omega arith in rw e (sym (take-append-drop n y)) }
 
 pub field :
-    {k : Kind} {ks : List Kind} {zs : List ℤ} {ts : List ℕ} {p : ℕ} {y x z : List ℕ} {n : ℕ} → x ≡ placed y n (fieldBytes (form k) zs (drop p ts)) →
+    {k : Kind} {ks : List Kind} {zs : List ℤ} {ts : List ℕ} {p : ℕ} {y x z : List ℕ} {n : ℕ} → x ≡ putAt y n (fieldBytes (form k) zs (drop p ts)) →
     Stored ks (numbersBehind (form k) zs) ts (p + textWidth (form k)) x z (n + width k) → Stored (k ∷ ks) zs ts p y z n
 unfolding encode size textSize
 field {k} {ks} {zs} {ts} {p} {y} {x} {z} {n} e r =
@@ -65,7 +65,7 @@ kept-bits z h = ap (ofZ w64) (toZ-ofZ {w = w64} {z = z} (record { sfits = h }))
 
 pub signed-field :
     {k : Kind} {ks : List Kind} {z : ℤ} {zs : List ℤ} {ts : List ℕ} {p : ℕ} {y x w : List ℕ} {n : ℕ} → form k ≡ signed →
-    mag z < 2 ^ 63 → x ≡ placed y n (digits 8 (ofZ w64 (toZ w64 (ofZ w64 z)))) →
+    mag z < 2 ^ 63 → x ≡ putAt y n (digits 8 (ofZ w64 (toZ w64 (ofZ w64 z)))) →
     Stored ks (numbersBehind (form k) (z ∷ zs)) ts (p + textWidth (form k)) x w (n + width k) →
     Stored (k ∷ ks) (z ∷ zs) ts p y w n
 signed-field {k} {ks} {z} {zs} {ts} {p} {y} {x} {w} {n} f h e r = field (e ∙ rw (kept-bits z h, f)) r
@@ -102,7 +102,7 @@ encode-texts (t ∷ us) ks zs ts =
 
 -- they are stored by one copy
 pub words :
-    (us : List Text) {ks : List Kind} {zs : List ℤ} {ts : List ℕ} {p : ℕ} {y x z : List ℕ} {n : ℕ} → x ≡ placed y n (take (wide us) (drop p ts)) →
+    (us : List Text) {ks : List Kind} {zs : List ℤ} {ts : List ℕ} {p : ℕ} {y x z : List ℕ} {n : ℕ} → x ≡ putAt y n (take (wide us) (drop p ts)) →
     Stored ks zs ts (p + wide us) x z (n + wide us) → Stored (texts-then us ks) zs ts p y z n
 words us {ks} {zs} {ts} {p} {y} {x} {z} {n} e r =
     record {
@@ -131,35 +131,35 @@ words us {ks} {zs} {ts} {p} {y} {x} {z} {n} e r =
 
 -- all the texts that there are
 pub all-words :
-    (us : List Text) {ks : List Kind} {zs : List ℤ} {ts y x z : List ℕ} {n : ℕ} → length ts ≡ wide us → x ≡ placed y n ts →
+    (us : List Text) {ks : List Kind} {zs : List ℤ} {ts y x z : List ℕ} {n : ℕ} → length ts ≡ wide us → x ≡ putAt y n ts →
     Stored ks zs ts (0 + wide us) x z (n + wide us) → Stored (texts-then us ks) zs ts 0 y z n
 all-words us {ks} {zs} {ts} {y} {x} {z} {n} h e r =
-    words us (e ∙ ap (placed y n) (sym (take-all (wide us) ts (omega arith)))) r
+    words us (e ∙ ap (putAt y n) (sym (take-all (wide us) ts (omega arith)))) r
 
 -- ---- an output for the fields alone
 
 module _ (m : Message) (zs : List ℤ) (ts out : List ℕ) where
-  pub other-texts : (length ts ≡ textSize (fields m) → ⊥) → out ≡ stored m zs ts out
-  unfolding stored
+  pub other-texts : (length ts ≡ textSize (fields m) → ⊥) → out ≡ putFields m zs ts out
+  unfolding putFields
   other-texts h = rw (ne-eqb (length ts) (textSize (fields m)) h)
 
-  pub other-room : length ts ≡ textSize (fields m) → (length out ≡ size (fields m) → ⊥) → out ≡ stored m zs ts out
-  unfolding stored
+  pub other-room : length ts ≡ textSize (fields m) → (length out ≡ size (fields m) → ⊥) → out ≡ putFields m zs ts out
+  unfolding putFields
   other-room t h = rw (eq-eqb (length ts) (textSize (fields m)) t, ne-eqb (length out) (size (fields m)) h)
 
-  pub fits : length ts ≡ textSize (fields m) → length out ≡ size (fields m) → stored m zs ts out ≡ encode (fields m) zs ts
-  unfolding stored
+  pub fits : length ts ≡ textSize (fields m) → length out ≡ size (fields m) → putFields m zs ts out ≡ encode (fields m) zs ts
+  unfolding putFields
   fits t h = rw (eq-eqb (length ts) (textSize (fields m)) t, eq-eqb (length out) (size (fields m)) h)
 
   -- fields that fill it
-  pub filled : {z : List ℕ} → length ts ≡ textSize (fields m) → length out ≡ size (fields m) → Stored (fields m) zs ts 0 out z 0 → z ≡ stored m zs ts out
+  pub filled : {z : List ℕ} → length ts ≡ textSize (fields m) → length out ≡ size (fields m) → Stored (fields m) zs ts 0 out z 0 → z ≡ putFields m zs ts out
   unfolding splice
   filled t h r =
       let n : length (encode (fields m) zs ts) ≡ size (fields m) = length-encode (fields m) zs ts t in
       let e : splice out 0 (encode (fields m) zs ts) ≡ encode (fields m) zs ts = rw (n, drop-of-length-le out {i = 0 + size (fields m)} (omega arith), append-nil) in
       r .is (omega arith) t ∙ e ∙ sym (fits t h)
 
-  stored-by : (a b : Bool) → eqb (length ts) (textSize (fields m)) ≡ a → eqb (length out) (size (fields m)) ≡ b → length (stored m zs ts out) ≡ length out
+  stored-by : (a b : Bool) → eqb (length ts) (textSize (fields m)) ≡ a → eqb (length out) (size (fields m)) ≡ b → length (putFields m zs ts out) ≡ length out
   stored-by true true p q =
       let t = eqb-true _ _ p in
       let h = eqb-true _ _ q in
@@ -168,14 +168,14 @@ module _ (m : Message) (zs : List ℤ) (ts out : List ℕ) where
   stored-by false b p q = ap length (sym (other-texts (eqb-false _ _ p)))
 
   -- it keeps its length
-  pub length-stored : length (stored m zs ts out) ≡ length out
+  pub length-stored : length (putFields m zs ts out) ≡ length out
   length-stored = stored-by (eqb (length ts) (textSize (fields m))) (eqb (length out) (size (fields m))) refl refl
 
 -- an index is stored as a snapshot is, and a stock number as a count is
-pub index-stored : (zs : List ℤ) (ts out : List ℕ) → stored snapshot zs ts out ≡ stored index zs ts out
-unfolding stored
+pub index-stored : (zs : List ℤ) (ts out : List ℕ) → putFields snapshot zs ts out ≡ putFields index zs ts out
+unfolding putFields
 index-stored zs ts out = refl
 
-pub volume-index-stored : (zs : List ℤ) (ts out : List ℕ) → stored snapshot zs ts out ≡ stored volumeIndex zs ts out
-unfolding stored size textSize encode
+pub volume-index-stored : (zs : List ℤ) (ts out : List ℕ) → putFields snapshot zs ts out ≡ putFields volumeIndex zs ts out
+unfolding putFields size textSize encode
 volume-index-stored zs ts out = refl

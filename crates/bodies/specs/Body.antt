@@ -10,20 +10,20 @@ use mir.Syntax.{w64}
 use mir.Val.{SFits, ofZ}
 use Rattle.wire.specs.Bytes.{digits}
 use Rattle.layout.specs.Kind.{Kind, text, Text, Form, unsigned, signed, written, form, bytes, characters, ranged}
-use Rattle.layout.specs.Layout.{Message, fields, Group, Behind, nothing, groups, entries, behind, size, textsBehind}
-use Rattle.layout.specs.Group.{fit, place, groupRanges, group}
+use Rattle.layout.specs.Layout.{Message, fields, Behind, nothing, groups, entries, behind, size, textsBehind}
+use Rattle.layout.specs.Group.{even, groupRanges, group}
 
 -- ---- numbers
 
 -- L1: a number that a field of a form can hold
-pub data Holds : Form → ℤ → Type 0 where
-  plain : {w n : ℕ} → n < 256 ^ w → Holds (unsigned w) (pos n)
-  sign : {z : ℤ} → SFits w64 z → Holds signed z
+pub data CanHold : Form → ℤ → Type 0 where
+  plain : {w n : ℕ} → n < 256 ^ w → CanHold (unsigned w) (pos n)
+  sign : {z : ℤ} → SFits w64 z → CanHold signed z
 
 -- W1: a number for each fixed field of a layout, in its order; a text has none
 pub data Numbers : List Kind → List ℤ → Type 0 where
   none : Numbers [] []
-  number : {k : Kind} {ks : List Kind} {z : ℤ} {zs : List ℤ} → Holds (form k) z → Numbers ks zs → Numbers (k ∷ ks) (z ∷ zs)
+  number : {k : Kind} {ks : List Kind} {z : ℤ} {zs : List ℤ} → CanHold (form k) z → Numbers ks zs → Numbers (k ∷ ks) (z ∷ zs)
   words : {t : Text} {ks : List Kind} {zs : List ℤ} → Numbers ks zs → Numbers (text t ∷ ks) zs
 
 -- ---- the bytes of a body
@@ -94,10 +94,6 @@ countIn (entries e) zs = bits (last zs)
 -- W4: how many groups a record of a type states
 abbrev pub stated : Message → List ℤ → ℕ
 stated m zs = countIn (behind m) zs
-
--- W4: whether groups come out even with the count, shown counts included
-unfoldable pub even : Group → List ℕ → ℕ → Bool
-even g gs n = fit g gs 0 n && eqb (place g gs 0 n) (length gs)
 
 -- W4: texts and groups are just the type's; a type without them takes none
 abbrev pub exact : Message → List ℤ → List ℕ → List ℕ → Bool

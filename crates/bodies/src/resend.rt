@@ -2,17 +2,18 @@
 ghost use mathlib.Core.Path.{_≡_};
 ghost use Rattle.layout.specs.Layout.{fields};
 ghost use Rattle.layout.specs.Layout as of;
-ghost use Rattle.layout.specs.Paper.{paper};
+ghost use Rattle.layout.specs.Paper.{meansVerdict};
 ghost use Rattle.record.specs.declared.Record.the-variants as variant;
 ghost use Rattle.bodies.specs.Body.{numbersIn};
-ghost use Rattle.bodies.specs.Parts.{numbersOf, judgedParts, stored};
-use crate::Size;
+ghost use Rattle.bodies.specs.Parts.{numbersOf, verdictOf, putFields};
 use crate::groups::none;
 use layout::Refusal;
 use layout::Verdict;
-use layout::natural;
-use layout::resend_type;
-use layout::status;
+use layout::natural_in_range;
+use layout::resend;
+use layout::resend_type_in_range;
+use layout::status_in_range;
+use layout::width;
 use record::Resend;
 use wire::unsigned;
 
@@ -20,16 +21,16 @@ use wire::unsigned;
 fn in_range(r: Resend) -> bool
     ensures { λ a. ⌜ a ≡ numbersIn (fields of.resend) (numbersOf (variant.Resend r)) ⌝ }
 {
-    resend_type(r.resend_type)
-        & (natural(unsigned(r.first_number))
-            & (natural(unsigned(r.last_number)) & status(r.status)))
+    resend_type_in_range(r.resend_type)
+        & (natural_in_range(unsigned(r.first_number))
+            & (natural_in_range(unsigned(r.last_number)) & status_in_range(r.status)))
 }
 
 // 4 for texts or groups that aren't exactly its own, then 5 for a number out of range.
 pub fn resend_verdict(r: Resend, texts: &[u8], groups: &[u8]) -> Verdict
-    ensures { λ v. ⌜ paper v ≡ judgedParts of.resend (numbersOf (variant.Resend r)) (now (texts .entry)) (now (groups .entry)) ⌝ }
+    ensures { λ v. ⌜ meansVerdict v ≡ verdictOf of.resend (numbersOf (variant.Resend r)) (now (texts .entry)) (now (groups .entry)) ⌝ }
 {
-    if texts.len() != Size::RESEND_TEXTS {
+    if texts.len() != resend::TEXTS_SIZE {
         return Verdict::Refused(Refusal::NotItsLayout);
     }
     none(groups).also(in_range(r))
@@ -37,19 +38,23 @@ pub fn resend_verdict(r: Resend, texts: &[u8], groups: &[u8]) -> Verdict
 
 // Its fields, one behind the other, where texts and output have just their lengths.
 pub fn put_resend(r: Resend, texts: &[u8], out: &mut [u8])
-    ensures { λ _. ⌜ now (out .exit) ≡ stored of.resend (numbersOf (variant.Resend r)) (now (texts .entry)) (now (out .entry)) ⌝ }
+    ensures { λ _. ⌜ now (out .exit) ≡ putFields of.resend (numbersOf (variant.Resend r)) (now (texts .entry)) (now (out .entry)) ⌝ }
 {
-    if texts.len() != Size::RESEND_TEXTS {
+    if texts.len() != resend::TEXTS_SIZE {
         return;
     }
-    if out.len() != Size::RESEND {
+    if out.len() != resend::SIZE {
         return;
     }
-    wire::put1(out, 0, r.resend_type);
-    wire::put2(out, 1, r.channel);
-    wire::put_i64(out, 3, r.first_number);
-    wire::put_i64(out, 11, r.last_number);
-    wire::copy(out, 19, &texts[0..8]);
-    wire::put1(out, 27, r.status);
-    wire::copy(out, 28, &texts[8..24]);
+    wire::put1(out, resend::RESEND_TYPE, r.resend_type);
+    wire::put2(out, resend::CHANNEL, r.channel);
+    wire::put_i64(out, resend::FIRST_NUMBER, r.first_number);
+    wire::put_i64(out, resend::LAST_NUMBER, r.last_number);
+    wire::copy(out, resend::NEWS_ID, &texts[0..width::NEWS_ID]);
+    wire::put1(out, resend::STATUS, r.status);
+    wire::copy(
+        out,
+        resend::REJECT_TEXT,
+        &texts[width::NEWS_ID..resend::TEXTS_SIZE],
+    );
 }

@@ -2,16 +2,16 @@
 ghost use mathlib.Core.Path.{_≡_};
 ghost use Rattle.layout.specs.Layout.{fields};
 ghost use Rattle.layout.specs.Layout as of;
-ghost use Rattle.layout.specs.Paper.{paper};
+ghost use Rattle.layout.specs.Paper.{meansVerdict};
 ghost use Rattle.record.specs.declared.Record.the-variants as variant;
 ghost use Rattle.bodies.specs.Body.{numbersIn};
-ghost use Rattle.bodies.specs.Parts.{numbersOf, judgedParts, stored};
-use crate::Size;
+ghost use Rattle.bodies.specs.Parts.{numbersOf, verdictOf, putFields};
 use layout::Groups;
 use layout::Refusal;
 use layout::Verdict;
 use layout::judge_all;
-use layout::time;
+use layout::security_status;
+use layout::time_in_range;
 use record::SecurityStatus;
 use wire::unsigned;
 
@@ -19,14 +19,14 @@ use wire::unsigned;
 fn in_range(r: SecurityStatus) -> bool
     ensures { λ a. ⌜ a ≡ numbersIn (fields of.securityStatus) (numbersOf (variant.SecurityStatus r)) ⌝ }
 {
-    time(unsigned(r.time))
+    time_in_range(unsigned(r.time))
 }
 
 // 4 for texts or groups that aren't exactly its own, then 5 for a number out of range.
 pub fn security_status_verdict(r: SecurityStatus, texts: &[u8], groups: &[u8]) -> Verdict
-    ensures { λ v. ⌜ paper v ≡ judgedParts of.securityStatus (numbersOf (variant.SecurityStatus r)) (now (texts .entry)) (now (groups .entry)) ⌝ }
+    ensures { λ v. ⌜ meansVerdict v ≡ verdictOf of.securityStatus (numbersOf (variant.SecurityStatus r)) (now (texts .entry)) (now (groups .entry)) ⌝ }
 {
-    if texts.len() != Size::SECURITY_STATUS_TEXTS {
+    if texts.len() != security_status::TEXTS_SIZE {
         return Verdict::Refused(Refusal::NotItsLayout);
     }
     judge_all(Groups::Switches, groups, r.count).also(in_range(r))
@@ -34,16 +34,16 @@ pub fn security_status_verdict(r: SecurityStatus, texts: &[u8], groups: &[u8]) -
 
 // Its fields, one behind the other, where texts and output have just their lengths.
 pub fn put_security_status(r: SecurityStatus, texts: &[u8], out: &mut [u8])
-    ensures { λ _. ⌜ now (out .exit) ≡ stored of.securityStatus (numbersOf (variant.SecurityStatus r)) (now (texts .entry)) (now (out .entry)) ⌝ }
+    ensures { λ _. ⌜ now (out .exit) ≡ putFields of.securityStatus (numbersOf (variant.SecurityStatus r)) (now (texts .entry)) (now (out .entry)) ⌝ }
 {
-    if texts.len() != Size::SECURITY_STATUS_TEXTS {
+    if texts.len() != security_status::TEXTS_SIZE {
         return;
     }
-    if out.len() != Size::SECURITY_STATUS {
+    if out.len() != security_status::SIZE {
         return;
     }
-    wire::put_i64(out, 0, r.time);
-    wire::put2(out, 8, r.channel);
-    wire::copy(out, 10, texts);
-    wire::put4(out, 30, r.count);
+    wire::put_i64(out, security_status::TIME, r.time);
+    wire::put2(out, security_status::CHANNEL, r.channel);
+    wire::copy(out, security_status::SECURITY, texts);
+    wire::put4(out, security_status::COUNT, r.count);
 }

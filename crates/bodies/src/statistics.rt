@@ -2,16 +2,16 @@
 ghost use mathlib.Core.Path.{_≡_};
 ghost use Rattle.layout.specs.Layout.{fields};
 ghost use Rattle.layout.specs.Layout as of;
-ghost use Rattle.layout.specs.Paper.{paper};
+ghost use Rattle.layout.specs.Paper.{meansVerdict};
 ghost use Rattle.record.specs.declared.Record.the-variants as variant;
 ghost use Rattle.bodies.specs.Body.{numbersIn};
-ghost use Rattle.bodies.specs.Parts.{numbersOf, judgedParts, stored};
-use crate::Size;
+ghost use Rattle.bodies.specs.Parts.{numbersOf, verdictOf, putFields};
 use layout::Groups;
 use layout::Refusal;
 use layout::Verdict;
 use layout::judge_all;
-use layout::time;
+use layout::statistics;
+use layout::time_in_range;
 use record::Statistics;
 use wire::unsigned;
 
@@ -19,14 +19,14 @@ use wire::unsigned;
 fn in_range(r: Statistics) -> bool
     ensures { λ a. ⌜ a ≡ numbersIn (fields of.statistics) (numbersOf (variant.Statistics r)) ⌝ }
 {
-    time(unsigned(r.time))
+    time_in_range(unsigned(r.time))
 }
 
 // 4 for texts or groups that aren't exactly its own, then 5 for a number out of range.
 pub fn statistics_verdict(r: Statistics, texts: &[u8], groups: &[u8]) -> Verdict
-    ensures { λ v. ⌜ paper v ≡ judgedParts of.statistics (numbersOf (variant.Statistics r)) (now (texts .entry)) (now (groups .entry)) ⌝ }
+    ensures { λ v. ⌜ meansVerdict v ≡ verdictOf of.statistics (numbersOf (variant.Statistics r)) (now (texts .entry)) (now (groups .entry)) ⌝ }
 {
-    if texts.len() != Size::STATISTICS_TEXTS {
+    if texts.len() != statistics::TEXTS_SIZE {
         return Verdict::Refused(Refusal::NotItsLayout);
     }
     judge_all(Groups::Streams, groups, r.count).also(in_range(r))
@@ -34,15 +34,15 @@ pub fn statistics_verdict(r: Statistics, texts: &[u8], groups: &[u8]) -> Verdict
 
 // Its fields, one behind the other, where texts and output have just their lengths.
 pub fn put_statistics(r: Statistics, texts: &[u8], out: &mut [u8])
-    ensures { λ _. ⌜ now (out .exit) ≡ stored of.statistics (numbersOf (variant.Statistics r)) (now (texts .entry)) (now (out .entry)) ⌝ }
+    ensures { λ _. ⌜ now (out .exit) ≡ putFields of.statistics (numbersOf (variant.Statistics r)) (now (texts .entry)) (now (out .entry)) ⌝ }
 {
-    if texts.len() != Size::STATISTICS_TEXTS {
+    if texts.len() != statistics::TEXTS_SIZE {
         return;
     }
-    if out.len() != Size::STATISTICS {
+    if out.len() != statistics::SIZE {
         return;
     }
-    wire::put_i64(out, 0, r.time);
-    wire::put2(out, 8, r.channel);
-    wire::put4(out, 10, r.count);
+    wire::put_i64(out, statistics::TIME, r.time);
+    wire::put2(out, statistics::CHANNEL, r.channel);
+    wire::put4(out, statistics::COUNT, r.count);
 }

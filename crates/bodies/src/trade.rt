@@ -2,20 +2,21 @@
 ghost use mathlib.Core.Path.{_≡_};
 ghost use Rattle.layout.specs.Layout.{fields};
 ghost use Rattle.layout.specs.Layout as of;
-ghost use Rattle.layout.specs.Paper.{paper};
+ghost use Rattle.layout.specs.Paper.{meansVerdict};
 ghost use Rattle.record.specs.declared.Record.the-variants as variant;
 ghost use Rattle.bodies.specs.Body.{numbersIn};
-ghost use Rattle.bodies.specs.Parts.{numbersOf, judgedParts, stored};
-use crate::Size;
+ghost use Rattle.bodies.specs.Parts.{numbersOf, verdictOf, putFields};
 use crate::groups::none;
 use layout::Refusal;
 use layout::Verdict;
-use layout::execution;
-use layout::natural;
-use layout::number;
-use layout::price;
-use layout::quantity;
-use layout::time;
+use layout::execution_in_range;
+use layout::natural_in_range;
+use layout::number_in_range;
+use layout::price_in_range;
+use layout::quantity_in_range;
+use layout::time_in_range;
+use layout::trade;
+use layout::width;
 use record::Trade;
 use wire::unsigned;
 
@@ -23,19 +24,19 @@ use wire::unsigned;
 fn in_range(r: Trade) -> bool
     ensures { λ a. ⌜ a ≡ numbersIn (fields of.trade) (numbersOf (variant.Trade r)) ⌝ }
 {
-    number(unsigned(r.number))
-        & (natural(unsigned(r.bid_number))
-            & (natural(unsigned(r.offer_number))
-                & (price(unsigned(r.trade_price))
-                    & (quantity(unsigned(r.quantity))
-                        & (execution(r.execution) & time(unsigned(r.time)))))))
+    number_in_range(unsigned(r.number))
+        & (natural_in_range(unsigned(r.bid_number))
+            & (natural_in_range(unsigned(r.offer_number))
+                & (price_in_range(unsigned(r.trade_price))
+                    & (quantity_in_range(unsigned(r.quantity))
+                        & (execution_in_range(r.execution) & time_in_range(unsigned(r.time)))))))
 }
 
 // 4 for texts or groups that aren't exactly its own, then 5 for a number out of range.
 pub fn trade_verdict(r: Trade, texts: &[u8], groups: &[u8]) -> Verdict
-    ensures { λ v. ⌜ paper v ≡ judgedParts of.trade (numbersOf (variant.Trade r)) (now (texts .entry)) (now (groups .entry)) ⌝ }
+    ensures { λ v. ⌜ meansVerdict v ≡ verdictOf of.trade (numbersOf (variant.Trade r)) (now (texts .entry)) (now (groups .entry)) ⌝ }
 {
-    if texts.len() != Size::TRADE_TEXTS {
+    if texts.len() != trade::TEXTS_SIZE {
         return Verdict::Refused(Refusal::NotItsLayout);
     }
     none(groups).also(in_range(r))
@@ -43,22 +44,26 @@ pub fn trade_verdict(r: Trade, texts: &[u8], groups: &[u8]) -> Verdict
 
 // Its fields, one behind the other, where texts and output have just their lengths.
 pub fn put_trade(r: Trade, texts: &[u8], out: &mut [u8])
-    ensures { λ _. ⌜ now (out .exit) ≡ stored of.trade (numbersOf (variant.Trade r)) (now (texts .entry)) (now (out .entry)) ⌝ }
+    ensures { λ _. ⌜ now (out .exit) ≡ putFields of.trade (numbersOf (variant.Trade r)) (now (texts .entry)) (now (out .entry)) ⌝ }
 {
-    if texts.len() != Size::TRADE_TEXTS {
+    if texts.len() != trade::TEXTS_SIZE {
         return;
     }
-    if out.len() != Size::TRADE {
+    if out.len() != trade::SIZE {
         return;
     }
-    wire::put2(out, 0, r.channel);
-    wire::put_i64(out, 2, r.number);
-    wire::copy(out, 10, &texts[0..3]);
-    wire::put_i64(out, 13, r.bid_number);
-    wire::put_i64(out, 21, r.offer_number);
-    wire::copy(out, 29, &texts[3..15]);
-    wire::put_i64(out, 41, r.trade_price);
-    wire::put_i64(out, 49, r.quantity);
-    wire::put1(out, 57, r.execution);
-    wire::put_i64(out, 58, r.time);
+    wire::put2(out, trade::CHANNEL, r.channel);
+    wire::put_i64(out, trade::NUMBER, r.number);
+    wire::copy(out, trade::STREAM, &texts[0..width::STREAM]);
+    wire::put_i64(out, trade::BID_NUMBER, r.bid_number);
+    wire::put_i64(out, trade::OFFER_NUMBER, r.offer_number);
+    wire::copy(
+        out,
+        trade::SECURITY,
+        &texts[width::STREAM..trade::TEXTS_SIZE],
+    );
+    wire::put_i64(out, trade::PRICE, r.trade_price);
+    wire::put_i64(out, trade::QUANTITY, r.quantity);
+    wire::put1(out, trade::EXECUTION, r.execution);
+    wire::put_i64(out, trade::TIME, r.time);
 }

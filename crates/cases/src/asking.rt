@@ -47,9 +47,9 @@ fn said(answer: Requested) -> Said {
     match answer {
         Requested::Written(n) => said::written(n),
         Requested::NothingMissing => said::plain(4),
-        Requested::Malformed => said::refused(10),
-        Requested::NoSuchChannel => said::refused(7),
-        Requested::OutputShort => said::refused(6),
+        Requested::Malformed => said::refused(answer.number() as u64),
+        Requested::NoSuchChannel => said::refused(answer.number() as u64),
+        Requested::OutputShort => said::refused(answer.number() as u64),
     }
 }
 

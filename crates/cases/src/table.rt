@@ -14,10 +14,10 @@ fn said(v: Verdict) -> Said {
         Verdict::Late => said::plain(1),
         Verdict::Duplicate => said::plain(2),
         Verdict::Heard => said::plain(3),
-        Verdict::NoSuchChannel => said::refused(7),
-        Verdict::NumberTooLow => said::refused(8),
-        Verdict::TableFull => said::refused(9),
-        Verdict::Malformed => said::refused(10),
+        Verdict::NoSuchChannel => said::refused(v.number() as u64),
+        Verdict::NumberTooLow => said::refused(v.number() as u64),
+        Verdict::TableFull => said::refused(v.number() as u64),
+        Verdict::Malformed => said::refused(v.number() as u64),
     }
 }
 

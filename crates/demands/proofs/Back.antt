@@ -11,21 +11,29 @@ use lib.Seq.{length-take-le}
 use Rattle.wire.specs.Answer.{accepted, guard}
 use Rattle.wire.specs.Bytes.{Bytes, splice}
 use Rattle.wire.proofs.Digits.{bytes-take, bytes-drop}
-use Rattle.frame.specs.Framing.{headerWidth, bodyLimit, framing, bodyOf}
+use Rattle.frame.specs.Framing.{headerWidth, bodyLimit, read, bodyOf}
 use Rattle.frame.specs.declared.Frame.{Frame}
 use Rattle.frame.proofs.Framing as frame-laws
 use Rattle.layout.specs.Layout.{Message, heartbeat, channelHeartbeat, resend, statistics, securityStatus, snapshot, index, volumeIndex, order, trade, fields, typeNumber, listed, named, values, texts}
-use Rattle.layout.specs.Group.{place, group, start, count, judged}
-use Rattle.record.specs.Record.{known, readAs, reading, frameReading, groupsAs, groupsPart}
+use Rattle.layout.specs.Group.{groupOffset, group, groupsStart, count, judgeBody}
+use Rattle.record.specs.Asked.{withTexts}
+use Rattle.record.specs.Record.{Reading, known, readAs, readBody, readFrame, groupsAs, groupsOf}
 use Rattle.record.proofs.Choice.{named-as, named-back}
-use Rattle.bodies.specs.Body.{Numbers, body, bodyLength}
-use Rattle.writer.specs.Write.{frameOf, frameLength, judgedAs}
+use Rattle.bodies.specs.Body.{Numbers, body, bodyLength, textSize}
+use Rattle.writer.specs.Write.{frameOf, frameLength, writeKnown}
 use Rattle.bodies.proofs.Bodies.{same, exactly, reads, again-from}
 use Rattle.writer.proofs.Frames.{said, framed, framed-again}
 use Rattle.writer.proofs.Judging.{known-of, fit-whole}
-use Rattle.demands.specs.Demand2.{Reads}
 
 -- ---- what is written reads back
+
+-- by the definitions, bytes begin with a frame of n bytes and read as a record with its texts and groups
+pub record ReadsAs (x : Reading) (ts gs : List ℕ) (n : ℕ) (s : List ℕ) : Type 0 where
+  pub frame : Frame
+  pub framed : read headerWidth bodyLimit s ≡ accepted frame
+  pub total : frame .total ≡ n
+  pub fields : readFrame s ≡ withTexts (accepted x) ts
+  pub groups : groupsOf (frame .kind) (bodyOf headerWidth (accepted frame) s) ≡ gs
 
 type-fits : (m : Message) → typeNumber m < 256 ^ 4
 type-fits heartbeat = lit< tt
@@ -40,9 +48,9 @@ type-fits order = lit< tt
 type-fits trade = lit< tt
 
 pub back-known :
-    (m : Message) {zs : List ℤ} → Numbers (fields m) zs → (ts gs out : List ℕ) (n : ℕ) → judgedAs m zs ts gs (length out) ≡ accepted n →
-    Reads (known m zs) ts gs n (splice out 0 (frameOf (typeNumber m) (body m zs ts gs)))
-unfolding splice frameReading reading readAs groupsPart
+    (m : Message) {zs : List ℤ} → Numbers (fields m) zs → (ts gs out : List ℕ) (n : ℕ) → writeKnown m zs ts gs (length out) ≡ accepted n →
+    ReadsAs (known m zs) ts gs n (splice out 0 (frameOf (typeNumber m) (body m zs ts gs)))
+unfolding splice readFrame readBody readAs groupsOf
 back-known m {zs} g ts gs out n e =
     let b : List ℕ = body m zs ts gs in
     let t : ℕ = typeNumber m in
@@ -60,7 +68,7 @@ back-known m {zs} g ts gs out n e =
 
 -- ---- what is read and written again
 
-module _ (s : List ℕ) (f : Frame) (m : Message) (bytes : Bytes s) (e : framing headerWidth bodyLimit s ≡ accepted f) where
+module _ (s : List ℕ) (f : Frame) (m : Message) (bytes : Bytes s) (e : read headerWidth bodyLimit s ≡ accepted f) where
   -- the body, and what it reads as
   abbrev pub lent : List ℕ
   lent = bodyOf headerWidth (accepted f) s
@@ -75,11 +83,14 @@ module _ (s : List ℕ) (f : Frame) (m : Message) (bytes : Bytes s) (e : framing
   bytes-lent = bytes-take (8 + f .len - 8) (bytes-drop 8 bytes)
 
   module _
-      (c : named (f .kind) ≡ listed m) (j : judged m lent ≡ accepted tt)
-      (t : place (group m) lent (start m) (count m lent) ≡ length lent) (out : List ℕ) (room : f .total ≤ length out)
+      (c : named (f .kind) ≡ listed m) (j : judgeBody m lent ≡ accepted tt)
+      (t : groupOffset (group m) lent (groupsStart m) (count m lent) ≡ length lent) (out : List ℕ) (room : f .total ≤ length out)
     where
-      pub judged-again : judgedAs m (values (fields m) lent 0) (texts (fields m) lent 0) (groupsAs m lent) (length out) ≡ accepted (f .total)
-      unfolding judgedAs guard
+      pub length-texts : length (texts (fields m) lent 0) ≡ textSize (fields m)
+      length-texts = exactly m (values (fields m) lent 0) (texts (fields m) lent 0) (groupsAs m lent) (again-from m lent bytes-lent j t .exacts) .texts
+
+      pub judged-again : writeKnown m (values (fields m) lent 0) (texts (fields m) lent 0) (groupsAs m lent) (length out) ≡ accepted (f .total)
+      unfolding writeKnown guard
       judged-again =
           let a = frame-laws.known-of headerWidth bodyLimit s f e in
           let g = again-from m lent bytes-lent j t in

@@ -1,7 +1,7 @@
 -- Demand 1: each call's answer is the refusal of the first rule whose condition holds, and leaves things as they stood.
 -- Assumes nothing.
 use Prim.Native.Nat.{ℕ, zero, suc, _+_, _≤_, _<_, zero-le}
-use mathlib.Core.Path.{_≡_, refl, ap, sym, subst, _∙_}
+use mathlib.Core.Path.{_≡_, refl, sym, subst, _∙_}
 use mathlib.Core.Bool.{Bool, true, false, true≢false, not, cond}
 use mathlib.Core.Logic.{_↔_, _⊎_, inl, inr, ⊎-elim}
 use mathlib.Core.List.{List, [], _∷_}
@@ -14,38 +14,40 @@ use lib.Signed.{ltZ-yes}
 use Rattle.wire.specs.Answer.{Answer, accepted, refused, guard, andThen}
 use Rattle.wire.specs.Bytes.{beAt, part}
 use Rattle.wire.specs.Refusal.{notItsLayout, outOfRange, outputShort, noSuchChannel, malformed}
-use Rattle.frame.specs.Framing.{framing, headerWidth, bodyLimit}
+use Rattle.frame.specs.Framing.{read, headerWidth, bodyLimit}
 use Rattle.frame.specs.declared.Frame.{Frame}
 use Rattle.frame.proofs.Framing as frame-laws
 use Rattle.layout.specs.Layout.{Listed, listed, unlisted, named, Behind, nothing, groups, entries, Entries, entryGroup, behind}
-use Rattle.layout.specs.Group.{start, counted, shown, place, next, fit, groupRanges, judgedFrom}
+use Rattle.layout.specs.Group.{groupsStart, countAt, shown, groupOffset, nextOffset, fit, groupRanges, judgeGroups}
 use Rattle.layout.proofs.Walk.{and-both, ahead, place-beyond}
-use Rattle.record.specs.Asked.{Told, onceAccepted, Asked, found, noSuchEntry, below, judgedAs, judging}
+use Rattle.record.specs.Asked.{WithTexts, onceAccepted, Asked, found, noSuchEntry, below, judgeListed, judge}
 use Rattle.record.specs.Record as record-of
-use Rattle.record.specs.Record.{readListed, reading, frameReading, groupIn, groupAs, groupListed, groupAsked}
-use Rattle.entries.specs.Entry.{entryIn, entryOf, entryAsked, quantityIn, quantityOf, quantityAsked, quantityAt, ofFound, At, Stepped, stepIn, stepOf}
-use Rattle.record.specs.Paper.{paperRecord}
-use Rattle.entries.specs.Paper.{paperCursor}
-use Rattle.writer.specs.Write.{judging as writes, outputOf, answering, leaving}
+use Rattle.record.specs.Record.{readListed, readBody, readFrame, groupIn, groupAs, groupListed, groupOf}
+use Rattle.entries.specs.Entry.{entryIn, entryListed, entryOf, quantityIn, quantityListed, quantityOf, quantityAt, ofFound, At, Stepped, stepIn, step}
+use Rattle.record.specs.Paper.{meansRecord}
+use Rattle.entries.specs.Paper.{meansCursor}
+use Rattle.writer.specs.Write.{writeJudged as writes, outputWritten, write, writeLeaves}
 use Rattle.gaps.specs.Limits.{runLimit}
 use Rattle.gaps.specs.Channel as channel-of
 use Rattle.gaps.specs.Channel.{Event, tick, heartbeat, taken, tooLow}
 use Rattle.tracker.specs.declared.Tracker.{Tracker}
 use Rattle.seats.specs.Places.{channelLimit}
-use Rattle.seats.specs.Rules.{sound, ascends}
+use Rattle.seats.specs.Rules.{ascends}
 use Rattle.tracker.specs.Rules.{wellFormed}
-use Rattle.tracker.specs.SetUp.{blankOf, Ready, given, setUp}
-use Rattle.tracker.specs.Arrived.{on, place as place-of, Outcome, settled, arrived}
+use Rattle.tracker.specs.SetUp.{blankOf, Ready, setUpGives, setUp}
+use Rattle.tracker.specs.Arrived.{on, place as place-of, Outcome, settled, arrive}
 use Rattle.gaps.specs.declared.Run.{Run}
 use Rattle.tracker.specs.FirstRun.{Lost, lost, nothingMissing, foremost, firstRun}
 use Rattle.tracker.specs.Request as request
-use Rattle.tracker.specs.Request.{requestLength, fitting, answerOf}
+use Rattle.tracker.specs.Request.{requestLength, roomForRequest, answerOf}
 use Rattle.tracker.proofs.Fitting.{request-length}
-use Rattle.demands.specs.Play.{recordOf}
+use Rattle.demands.specs.Play.{channelOf}
 use Rattle.demands.proofs.Calls.{frame-read-as, read-frame-as, read-as, judge-as, group-of-as, entry-of-as, quantity-of-as, step-as, write-as, set-up-as, arrives-as, request-as}
 use Rattle.demands.specs.Rules.{_if_, Judged, success, later, OrNone, Kept}
-use Rattle.demands.specs.Conditions.{L, behindOf, fieldsEnd, groupsIn, entriesIn, shownIn, leftIn, groupCount, entryCount, shownCount, entriesLeft, EntryLacks, EntryStrays, Falls, Keeps, NotIn, Low}
-use Rattle.demands.specs.Demand1.{frameRules, bodyRules, readerRules, stepRules, writerRules, setUpRules, arrivalRules, requestRules, Demand1}
+use Rattle.demands.specs.Conditions.{L, behindOf, fieldsEnd, groupsIn, entriesIn, quantitiesIn, leftIn, groupCount, entryCount, shownCount, entriesLeft, EntryLacks, EntryStrays, Falls, Keeps, NotIn, Low}
+use Rattle.demands.specs.Demand1.{frameRules, bodyRules, readerRules, stepRules, writerRules, setUpRules, arrivalRules, requestRules}
+use Rattle.demands.specs.Receiver.{Demand1}
+use Rattle.demands.proofs.Checked.{checked}
 use Rattle.demands.proofs.Rules.{above, answered, tested, Alike, both-accepted, both-refused, alike, in-turn, by-reading, by-body, by-judging}
 use Rattle.demands.proofs.Keeps.{keeps-yes, keeps-sound}
 use Rattle.demands.proofs.Out.{only-out, only-in}
@@ -53,7 +55,7 @@ use Rattle.demands.proofs.Played.{place-number, place-found}
 
 -- ---- the reader
 
-by-frame : (s : List ℕ) → Judged (frameRules s) (framing headerWidth bodyLimit s)
+pub by-frame : (s : List ℕ) → Judged (frameRules s) (read headerWidth bodyLimit s)
 by-frame s = by-reading s _ (frame-laws.view headerWidth bodyLimit s)
 
 -- what follows a body that was judged
@@ -66,29 +68,29 @@ unfolding andThen
 then-alike (accepted u) a = both-accepted
 then-alike (refused n vs) a = both-refused
 
-read-alike : (l : Listed) (type : ℕ) (b : List ℕ) → Alike (judgedAs l b) (readListed l type b .answer)
+read-alike : (l : Listed) (type : ℕ) (b : List ℕ) → Alike (judgeListed l b) (readListed l type b .answer)
 unfolding record-of.readAs
-read-alike (listed m) type b = once-alike (judgedAs (listed m) b) _ _
+read-alike (listed m) type b = once-alike (judgeListed (listed m) b) _ _
 read-alike unlisted type b = both-accepted
 
-pub by-type : (type : ℕ) (b : List ℕ) → Judged (bodyRules type b) (reading type b .answer)
-unfolding reading
+pub by-type : (type : ℕ) (b : List ℕ) → Judged (bodyRules type b) (readBody type b .answer)
+unfolding readBody
 by-type type b = alike (read-alike (named type) type b) (by-body (named type) b)
 
-refused-on : (s : List ℕ) (n : ℕ) (vs : List ℕ) → framing headerWidth bodyLimit s ≡ refused n vs → frameReading s .answer ≡ refused n vs
-unfolding frameReading
+refused-on : (s : List ℕ) (n : ℕ) (vs : List ℕ) → read headerWidth bodyLimit s ≡ refused n vs → readFrame s .answer ≡ refused n vs
+unfolding readFrame
 refused-on s n vs e = rw e
 
 accepted-on :
-    (s : List ℕ) (f : Frame) → framing headerWidth bodyLimit s ≡ accepted f →
-    Judged (bodyRules (beAt s 0 4) (part 8 (8 + L s) s)) (frameReading s .answer)
-unfolding frameReading
+    (s : List ℕ) (f : Frame) → read headerWidth bodyLimit s ≡ accepted f →
+    Judged (bodyRules (beAt s 0 4) (part 8 (8 + L s) s)) (readFrame s .answer)
+unfolding readFrame
 accepted-on s f e =
     let a = frame-laws.known-of headerWidth bodyLimit s f e in
     rw (e, a .kind, a .len) (by-type (beAt s 0 4) (part 8 (8 + L s) s))
 
-by-bytes : (s : List ℕ) → Judged (readerRules s) (frameReading s .answer)
-by-bytes s = in-turn (frameReading s .answer) (by-frame s) (refused-on s) (accepted-on s)
+by-bytes : (s : List ℕ) → Judged (readerRules s) (readFrame s .answer)
+by-bytes s = in-turn (readFrame s .answer) (by-frame s) (refused-on s) (accepted-on s)
 
 -- ---- by position
 
@@ -113,26 +115,26 @@ then-value (accepted u) a x e = cc
 then-value (refused n vs) a x e = let z : _≡_ {A = ℕ} 0 1 = cc in absurd (omega arith)
 
 -- groups
-group-alike : (l : Listed) (b : List ℕ) (i : ℕ) → Alike (judgedAs l b) (groupListed l b i .answer)
+group-alike : (l : Listed) (b : List ℕ) (i : ℕ) → Alike (judgeListed l b) (groupListed l b i .answer)
 unfolding groupAs
-group-alike (listed m) b i = once-alike (judgedAs (listed m) b) _ _
+group-alike (listed m) b i = once-alike (judgeListed (listed m) b) _ _
 group-alike unlisted b i = both-accepted
 
 group-in : (h : Behind) (end : ℕ) (b : List ℕ) (i : ℕ) → (groupIn h end b i ≡ noSuchEntry) ↔ (groupsIn h end b ≤ i)
 group-in nothing end b i = none-there i
-group-in (groups g) end b i = below-none i (counted (groups g) end b) _
+group-in (groups g) end b i = below-none i (countAt (groups g) end b) _
 group-in (entries e) end b i = none-there i
 
 group-none :
     (l : Listed) (b : List ℕ) (i : ℕ) (x : Asked (List ℤ)) → groupListed l b i .answer ≡ accepted x → (x ≡ noSuchEntry) ↔ (groupsIn (behindOf l) (fieldsEnd l) b ≤ i)
 unfolding groupAs
 group-none (listed m) b i x e =
-    let a = once-value (judgedAs (listed m) b) (groupIn (behind m) (start m) b i) x _ e in
-    rw a at (group-in (behind m) (start m) b i)
+    let a = once-value (judgeListed (listed m) b) (groupIn (behind m) (groupsStart m) b i) x _ e in
+    rw a at (group-in (behind m) (groupsStart m) b i)
 group-none unlisted b i x e = (λ f. omega arith, λ h. cc)
 
-group-asked : (type : ℕ) (b : List ℕ) (i : ℕ) → OrNone (bodyRules type b) noSuchEntry (groupCount type b ≤ i) (groupAsked type b i .answer)
-unfolding groupAsked
+pub group-asked : (type : ℕ) (b : List ℕ) (i : ℕ) → OrNone (bodyRules type b) noSuchEntry (groupCount type b ≤ i) (groupOf type b i .answer)
+unfolding groupOf
 group-asked type b i =
     record {
       judged = alike (group-alike (named type) b i) (by-body (named type) b);
@@ -143,18 +145,18 @@ group-asked type b i =
 entry-in : (h : Behind) (end : ℕ) (b : List ℕ) (i : ℕ) → (entryIn h end b i ≡ noSuchEntry) ↔ (entriesIn h end b ≤ i)
 entry-in nothing end b i = none-there i
 entry-in (groups g) end b i = none-there i
-entry-in (entries e) end b i = below-none i (counted (entries e) end b) _
+entry-in (entries e) end b i = below-none i (countAt (entries e) end b) _
 
-entry-of : (l : Listed) (b : List ℕ) (i : ℕ) → (entryOf l b i ≡ noSuchEntry) ↔ (entriesIn (behindOf l) (fieldsEnd l) b ≤ i)
-entry-of (listed m) b i = entry-in (behind m) (start m) b i
+entry-of : (l : Listed) (b : List ℕ) (i : ℕ) → (entryListed l b i ≡ noSuchEntry) ↔ (entriesIn (behindOf l) (fieldsEnd l) b ≤ i)
+entry-of (listed m) b i = entry-in (behind m) (groupsStart m) b i
 entry-of unlisted b i = none-there i
 
-entry-asked : (type : ℕ) (b : List ℕ) (i : ℕ) → OrNone (bodyRules type b) noSuchEntry (entryCount type b ≤ i) (entryAsked type b i)
-unfolding entryAsked
+pub entry-asked : (type : ℕ) (b : List ℕ) (i : ℕ) → OrNone (bodyRules type b) noSuchEntry (entryCount type b ≤ i) (entryOf type b i)
+unfolding entryOf
 entry-asked type b i =
     record {
-      judged = alike (then-alike (judging type b) (entryOf (named type) b i)) (by-body (named type) b);
-      none-when = λ x f. rw (then-value (judging type b) (entryOf (named type) b i) x f) at (entry-of (named type) b i);
+      judged = alike (then-alike (judge type b) (entryListed (named type) b i)) (by-body (named type) b);
+      none-when = λ x f. rw (then-value (judge type b) (entryListed (named type) b i) x f) at (entry-of (named type) b i);
     }
 
 -- shown quantities
@@ -165,37 +167,37 @@ quantity-by (found a) h y k p q =
 quantity-by noSuchEntry h y k p q = (λ e. inl (p .0 refl), λ c. refl)
 
 quantity-in :
-    (h : Behind) (end : ℕ) (b : List ℕ) (i j : ℕ) → (quantityIn h end b i j ≡ noSuchEntry) ↔ ((entriesIn h end b ≤ i) ⊎ (shownIn h end b i ≤ j))
+    (h : Behind) (end : ℕ) (b : List ℕ) (i j : ℕ) → (quantityIn h end b i j ≡ noSuchEntry) ↔ ((entriesIn h end b ≤ i) ⊎ (quantitiesIn h end b i ≤ j))
 quantity-in nothing end b i j = (λ e. inl (omega arith), λ c. refl)
 quantity-in (groups g) end b i j = (λ e. inl (omega arith), λ c. refl)
 quantity-in (entries e) end b i j =
-    quantity-by (entryIn (entries e) end b i) _ (quantityAt (entryGroup e) b (place (entryGroup e) b end i) j) _ (entry-in (entries e) end b i)
-    (below-none j (shown (entryGroup e) b (place (entryGroup e) b end i)) _)
+    quantity-by (entryIn (entries e) end b i) _ (quantityAt (entryGroup e) b (groupOffset (entryGroup e) b end i) j) _ (entry-in (entries e) end b i)
+    (below-none j (shown (entryGroup e) b (groupOffset (entryGroup e) b end i)) _)
 
 quantity-of :
-    (l : Listed) (b : List ℕ) (i j : ℕ) → (quantityOf l b i j ≡ noSuchEntry) ↔ ((entriesIn (behindOf l) (fieldsEnd l) b ≤ i) ⊎ (shownIn (behindOf l) (fieldsEnd l) b i ≤ j))
-quantity-of (listed m) b i j = quantity-in (behind m) (start m) b i j
+    (l : Listed) (b : List ℕ) (i j : ℕ) → (quantityListed l b i j ≡ noSuchEntry) ↔ ((entriesIn (behindOf l) (fieldsEnd l) b ≤ i) ⊎ (quantitiesIn (behindOf l) (fieldsEnd l) b i ≤ j))
+quantity-of (listed m) b i j = quantity-in (behind m) (groupsStart m) b i j
 quantity-of unlisted b i j = quantity-in nothing 0 b i j
 
-quantity-asked :
+pub quantity-asked :
     (type : ℕ) (b : List ℕ) (i j : ℕ) →
-    OrNone (bodyRules type b) noSuchEntry ((entryCount type b ≤ i) ⊎ (shownCount type b i ≤ j)) (quantityAsked type b i j)
-unfolding quantityAsked
+    OrNone (bodyRules type b) noSuchEntry ((entryCount type b ≤ i) ⊎ (shownCount type b i ≤ j)) (quantityOf type b i j)
+unfolding quantityOf
 quantity-asked type b i j =
     record {
-      judged = alike (then-alike (judging type b) (quantityOf (named type) b i j)) (by-body (named type) b);
-      none-when = λ x f. rw (then-value (judging type b) (quantityOf (named type) b i j) x f) at (quantity-of (named type) b i j);
+      judged = alike (then-alike (judge type b) (quantityListed (named type) b i j)) (by-body (named type) b);
+      none-when = λ x f. rw (then-value (judge type b) (quantityListed (named type) b i j) x f) at (quantity-of (named type) b i j);
     }
 
 -- a step
 module _ (e : Entries) (b : List ℕ) (c : At) (some : 0 < c .left) where
-  short : fit (entryGroup e) b (c .place) 1 ≡ false → length b < next (entryGroup e) b (c .place)
-  unfolding place
+  short : fit (entryGroup e) b (c .place) 1 ≡ false → length b < nextOffset (entryGroup e) b (c .place)
+  unfolding groupOffset
   short f = place-beyond (entryGroup e) b (c .place) 1 f
 
   by-entry :
-      Judged (notItsLayout if EntryLacks (entries e) b c ∷ outOfRange if EntryStrays (entries e) b c ∷ []) (judgedFrom (entryGroup e) b (c .place) 1)
-  unfolding judgedFrom
+      Judged (notItsLayout if EntryLacks (entries e) b c ∷ outOfRange if EntryStrays (entries e) b c ∷ []) (judgeGroups (entryGroup e) b (c .place) 1)
+  unfolding judgeGroups
   by-entry =
       tested (not (fit (entryGroup e) b (c .place) 1)) (λ f. (some, short (not-true _ f)))
       (λ f k. above (ahead (entryGroup e) b (c .place) 1 (omega arith) (not-false _ f) .whole) (k .1))
@@ -215,7 +217,7 @@ step-judged (entries e) b c = go (eqb (c .left) 0) refl
     go true f =
         let l = eqb-true (c .left) 0 f in
         rw f (later (λ (k : EntryLacks (entries e) b c). omega (arith, l, k .0)) (later (λ (k : EntryStrays (entries e) b c). omega (arith, l, k .0)) success))
-    go false f = rw f (alike (then-alike (judgedFrom (entryGroup e) b (c .place) 1) _) (by-entry e b c (omega (arith, eqb-false (c .left) 0 f))))
+    go false f = rw f (alike (then-alike (judgeGroups (entryGroup e) b (c .place) 1) _) (by-entry e b c (omega (arith, eqb-false (c .left) 0 f))))
 
 step-none : (h : Behind) (b : List ℕ) (c : At) (x : Asked Stepped) → stepIn h b c ≡ accepted x → (x ≡ noSuchEntry) ↔ (leftIn h c ≡ 0)
 unfolding guard
@@ -226,15 +228,15 @@ step-none (entries e) b c x f = go (eqb (c .left) 0) refl
     go : (t : Bool) → eqb (c .left) 0 ≡ t → (x ≡ noSuchEntry) ↔ (c .left ≡ 0)
     go true g = let a : accepted noSuchEntry ≡ accepted x = rw g at f in (λ k. eqb-true (c .left) 0 g, λ k. cc)
     go false g =
-        let a = then-value (judgedFrom (entryGroup e) b (c .place) 1) _ x (rw g at f) in
+        let a = then-value (judgeGroups (entryGroup e) b (c .place) 1) _ x (rw g at f) in
         (λ k. let z : _≡_ {A = ℕ} 0 1 = cc in absurd (omega arith), λ k. absurd (eqb-false (c .left) 0 g k))
 
-step-of : (l : Listed) (b : List ℕ) (c : At) → stepOf l b c ≡ stepIn (behindOf l) b c
-unfolding stepOf
+step-of : (l : Listed) (b : List ℕ) (c : At) → step l b c ≡ stepIn (behindOf l) b c
+unfolding step
 step-of (listed m) b c = refl
 step-of unlisted b c = refl
 
-stepped : (type : ℕ) (b : List ℕ) (c : At) → OrNone (stepRules type b c) noSuchEntry (entriesLeft type c ≡ 0) (stepOf (named type) b c)
+pub stepped : (type : ℕ) (b : List ℕ) (c : At) → OrNone (stepRules type b c) noSuchEntry (entriesLeft type c ≡ 0) (step (named type) b c)
 stepped type b c =
     record {
       judged = answered (step-of (named type) b c) (step-judged (behindOf (named type)) b c);
@@ -244,11 +246,11 @@ stepped type b c =
 -- ---- the writer
 
 written-same :
-    (x : record-of.Reading) (ts gs out : List ℕ) (a : Answer ℕ) (n : ℕ) (vs : List ℕ) → a ≡ refused n vs → outputOf a x ts gs out ≡ out
+    (x : record-of.Reading) (ts gs out : List ℕ) (a : Answer ℕ) (n : ℕ) (vs : List ℕ) → a ≡ refused n vs → outputWritten a x ts gs out ≡ out
 written-same x ts gs out a n vs e = rw e
 
-written : (x : record-of.Reading) (ts gs out : List ℕ) → Kept (writerRules x ts gs (length out)) (answering x ts gs out) out (leaving x ts gs out)
-unfolding answering leaving
+pub written : (x : record-of.Reading) (ts gs out : List ℕ) → Kept (writerRules x ts gs (length out)) (write x ts gs out) out (writeLeaves x ts gs out)
+unfolding write writeLeaves
 written x ts gs out =
     record {
       judged = by-judging x ts gs (length out);
@@ -285,11 +287,11 @@ unfolding ascends
 rises-by [] e f = omega (arith, f .inside)
 rises-by (n ∷ l) e f = rises-behind n l (and-both (leb 0 n) _ e .1) (f .place) (f .inside) (f .falls)
 
-given-alike : (a : Answer Tracker) → Alike a (given a .said)
+given-alike : (a : Answer Tracker) → Alike a (setUpGives a .said)
 given-alike (accepted t) = both-accepted
 given-alike (refused n v) = both-refused
 
-given-same : (a : Answer Tracker) (n : ℕ) (vs : List ℕ) → given a .said ≡ refused n vs → given a .tracker ≡ blankOf []
+given-same : (a : Answer Tracker) (n : ℕ) (vs : List ℕ) → setUpGives a .said ≡ refused n vs → setUpGives a .tracker ≡ blankOf []
 given-same (accepted t) n vs e = let z : _≡_ {A = ℕ} 0 1 = cc in absurd (omega arith)
 given-same (refused m v) n vs e = refl
 
@@ -308,7 +310,7 @@ tests-judged numbers =
     (λ f.
     tested (not (ascends 0 numbers)) (λ g. falls-by numbers (not-true _ g)) (λ g. rises-by numbers (not-false _ g)) (λ g. success)))
 
-started : (numbers : List ℕ) → Kept (setUpRules numbers) (setUp numbers .said) (blankOf []) (setUp numbers .tracker)
+pub started : (numbers : List ℕ) → Kept (setUpRules numbers) (setUp numbers .said) (blankOf []) (setUp numbers .tracker)
 unfolding setUp
 started numbers =
     record {
@@ -350,12 +352,12 @@ settled-same t i (refused m v) n vs e = refl
 abbrev steps : Tracker → ℕ → Event → Answer channel-of.Step
 steps t k e =
     guard (not (wellFormed t)) (refused malformed [])
-    (guard (not (ltb (place-of t k) (t .count))) (refused noSuchChannel []) (channel-of.judged (recordOf t k) e))
+    (guard (not (ltb (place-of t k) (t .count))) (refused noSuchChannel []) (channel-of.judgeEvent (channelOf t k) e))
 
 steps-judged : (t : Tracker) (k : ℕ) (e : Event) → Judged (arrivalRules t k e) (steps t k e)
-unfolding channel-of.judged
+unfolding channel-of.judgeEvent
 steps-judged t k e =
-    let runs = taken (recordOf t k) e .next .runs in
+    let runs = taken (channelOf t k) e .next .runs in
     tested (not (wellFormed t)) (λ a. breaks t (not-true _ a)) (λ a x. x (keeps-yes t (not-false _ a)))
     (λ a.
     tested (not (ltb (place-of t k) (t .count))) (λ b. not-in t k (not-true _ b)) (λ b. is-in t k (not-false _ b))
@@ -363,8 +365,8 @@ steps-judged t k e =
     tested (tooLow e) (low-yes e) (low-no e)
     (λ c. tested (ltb runLimit (length runs)) (ltb-true runLimit (length runs)) (λ d. above (ltb-false runLimit (length runs) d)) (λ d. success))))
 
-arrives : (t : Tracker) (k : ℕ) (e : Event) → Kept (arrivalRules t k e) (arrived t (on k e) .said) t (arrived t (on k e) .next)
-unfolding arrived
+pub arrives : (t : Tracker) (k : ℕ) (e : Event) → Kept (arrivalRules t k e) (arrive t (on k e) .said) t (arrive t (on k e) .next)
+unfolding arrive
 arrives t k e =
     record {
       judged = alike (settled-alike t (place-of t k) (steps t k e)) (steps-judged t k e);
@@ -386,7 +388,7 @@ guard-value true n rest x e = let z : _≡_ {A = ℕ} 0 1 = cc in absurd (omega 
 guard-value false n rest x e = e
 
 -- a first run, and then 6
-fitting-judged : (l : List Run) (room : ℕ) → Judged (outputShort if ((l ≡ [] → ⊥) × (room < 12 + 44)) ∷ []) (fitting room (foremost l))
+fitting-judged : (l : List Run) (room : ℕ) → Judged (outputShort if ((l ≡ [] → ⊥) × (room < 12 + 44)) ∷ []) (roomForRequest room (foremost l))
 fitting-judged [] room = later (λ (k : (_≡_ {A = List Run} [] [] → ⊥) × (room < 12 + 44)). k .0 refl) success
 fitting-judged (r ∷ l) room =
     tested (ltb room requestLength)
@@ -396,18 +398,18 @@ fitting-judged (r ∷ l) room =
 module _ (t : Tracker) (k : ℕ) where
   -- the first run of the channel, behind 10 and 7
   abbrev runs : List Run
-  runs = recordOf t k .runs
+  runs = channelOf t k .runs
 
   abbrev seated : Answer Lost
   seated = guard (not (ltb (place-of t k) (t .count))) (refused noSuchChannel []) (accepted (foremost runs))
 
-  asks-judged : (room : ℕ) → Judged (requestRules t k room) (request.judging t k room)
-  unfolding request.judging firstRun andThen
+  asks-judged : (room : ℕ) → Judged (requestRules t k room) (request.requestJudged t k room)
+  unfolding request.requestJudged firstRun andThen
   asks-judged room =
-      answered (then-guard (not (wellFormed t)) malformed seated (fitting room))
+      answered (then-guard (not (wellFormed t)) malformed seated (roomForRequest room))
       (tested (not (wellFormed t)) (λ a. breaks t (not-true _ a)) (λ a x. x (keeps-yes t (not-false _ a)))
       (λ a.
-      answered (then-guard (not (ltb (place-of t k) (t .count))) noSuchChannel (accepted (foremost runs)) (fitting room))
+      answered (then-guard (not (ltb (place-of t k) (t .count))) noSuchChannel (accepted (foremost runs)) (roomForRequest room))
       (tested (not (ltb (place-of t k) (t .count))) (λ b. not-in t k (not-true _ b)) (λ b. is-in t k (not-false _ b))
       (λ b. fitting-judged runs room))))
 
@@ -422,8 +424,8 @@ answer-alike : (a : Answer Lost) → Alike a (answerOf a)
 answer-alike (accepted x) = both-accepted
 answer-alike (refused n vs) = both-refused
 
-module _ (x : request.Said) (room : ℕ) where
-  none-by : (l : List Run) (b : Bool) → ltb room requestLength ≡ b → answerOf (fitting room (foremost l)) ≡ accepted x → (x ≡ request.nothing) ↔ (l ≡ [])
+module _ (x : request.RequestSaid) (room : ℕ) where
+  none-by : (l : List Run) (b : Bool) → ltb room requestLength ≡ b → answerOf (roomForRequest room (foremost l)) ≡ accepted x → (x ≡ request.nothing) ↔ (l ≡ [])
   unfolding guard
   none-by [] b f e = (λ g. refl, λ g. cc)
   none-by (r ∷ l) true f e = let a : refused outputShort [] ≡ accepted x = rw f at e in let z : _≡_ {A = ℕ} 0 1 = cc in absurd (omega arith)
@@ -432,39 +434,39 @@ module _ (x : request.Said) (room : ℕ) where
       (λ g. let z : _≡_ {A = ℕ} 0 1 = cc in absurd (omega arith), λ g. let z : _≡_ {A = ℕ} 0 1 = cc in absurd (omega arith))
 
   none-first :
-      (t : Tracker) (k : ℕ) (y : Answer Lost) → firstRun t k ≡ y → answerOf (andThen y (fitting room)) ≡ accepted x →
-      (x ≡ request.nothing) ↔ (recordOf t k .runs ≡ [])
+      (t : Tracker) (k : ℕ) (y : Answer Lost) → firstRun t k ≡ y → answerOf (andThen y (roomForRequest room)) ≡ accepted x →
+      (x ≡ request.nothing) ↔ (channelOf t k .runs ≡ [])
   unfolding andThen
   none-first t k (accepted v) f e =
-      none-by (recordOf t k .runs) (ltb room requestLength) refl (rw (← first-value t k v f) at e)
+      none-by (channelOf t k .runs) (ltb room requestLength) refl (rw (← first-value t k v f) at e)
   none-first t k (refused n vs) f e = let z : _≡_ {A = ℕ} 0 1 = cc in absurd (omega arith)
 
 module _ (k : ℕ) (out : List ℕ) where
-  unasked : (a : Answer Lost) (n : ℕ) (vs : List ℕ) → answerOf a ≡ refused n vs → request.outputOf a k out ≡ out
+  unasked : (a : Answer Lost) (n : ℕ) (vs : List ℕ) → answerOf a ≡ refused n vs → request.outputAsked a k out ≡ out
   unasked (accepted v) n vs e = let z : _≡_ {A = ℕ} 0 1 = cc in absurd (omega arith)
   unasked (refused m us) n vs e = refl
 
-  unwritten : (a : Answer Lost) → answerOf a ≡ accepted request.nothing → request.outputOf a k out ≡ out
+  unwritten : (a : Answer Lost) → answerOf a ≡ accepted request.nothing → request.outputAsked a k out ≡ out
   unwritten (accepted (lost r)) e = let z : _≡_ {A = ℕ} 0 1 = cc in absurd (omega arith)
   unwritten (accepted nothingMissing) e = refl
   unwritten (refused n vs) e = refl
 
 module _ (t : Tracker) (k : ℕ) (out : List ℕ) where
-  asked-by : Judged (requestRules t k (length out)) (request.answering t k out)
-  unfolding request.answering
-  asked-by = alike (answer-alike (request.judging t k (length out))) (asks-judged t k (length out))
+  asked-by : Judged (requestRules t k (length out)) (request.request t k out)
+  unfolding request.request
+  asked-by = alike (answer-alike (request.requestJudged t k (length out))) (asks-judged t k (length out))
 
-  asked : Kept (requestRules t k (length out)) (request.answering t k out) out (request.leaving t k out)
-  unfolding request.answering request.leaving
-  asked = record { judged = asked-by; same = λ n vs f. unasked k out (request.judging t k (length out)) n vs f }
+  pub asked : Kept (requestRules t k (length out)) (request.request t k out) out (request.requestLeaves t k out)
+  unfolding request.request request.requestLeaves
+  asked = record { judged = asked-by; same = λ n vs f. unasked k out (request.requestJudged t k (length out)) n vs f }
 
-  asked-or-none : OrNone (requestRules t k (length out)) request.nothing (recordOf t k .runs ≡ []) (request.answering t k out)
-  unfolding request.answering request.judging
+  asked-or-none : OrNone (requestRules t k (length out)) request.nothing (channelOf t k .runs ≡ []) (request.request t k out)
+  unfolding request.request request.requestJudged
   asked-or-none = record { judged = asked-by; none-when = λ x f. none-first x (length out) t k (firstRun t k) refl f }
 
-  nothing-written : request.answering t k out ≡ accepted request.nothing → request.leaving t k out ≡ out
-  unfolding request.answering request.leaving
-  nothing-written f = unwritten k out (request.judging t k (length out)) f
+  pub nothing-written : request.request t k out ≡ accepted request.nothing → request.requestLeaves t k out ≡ out
+  unfolding request.request request.requestLeaves
+  nothing-written f = unwritten k out (request.requestJudged t k (length out)) f
 
 -- ---- the demand
 
@@ -475,15 +477,16 @@ every says e h = subst says (sym e) h
 pub demand1 : Demand1
 demand1 =
     record {
+      checked = checked;
       frame-read = λ s r c. rw (frame-read-as c) (by-frame s);
-      read-frame = λ s r c. every (λ (a : Told record-of.Reading). Judged (readerRules s) (a .answer)) (read-frame-as c) (by-bytes s);
-      read = λ type b r c. every (λ (a : Told record-of.Reading). Judged (bodyRules type b) (a .answer)) (read-as c) (by-type type b);
+      read-frame = λ s r c. every (λ (a : WithTexts record-of.Reading). Judged (readerRules s) (a .answer)) (read-frame-as c) (by-bytes s);
+      read = λ type b r c. every (λ (a : WithTexts record-of.Reading). Judged (bodyRules type b) (a .answer)) (read-as c) (by-type type b);
       judge = λ type b r c. rw (judge-as c) (by-body (named type) b);
-      group-of = λ type b i r c. every (λ (a : Told (Asked (List ℤ))). OrNone (bodyRules type b) noSuchEntry (groupCount type b ≤ i) (a .answer)) (group-of-as c) (group-asked type b i);
+      group-of = λ type b i r c. every (λ (a : WithTexts (Asked (List ℤ))). OrNone (bodyRules type b) noSuchEntry (groupCount type b ≤ i) (a .answer)) (group-of-as c) (group-asked type b i);
       entry-of = λ type b i r c. rw (entry-of-as c) (entry-asked type b i);
       quantity-of = λ type b i j r c. rw (quantity-of-as c) (quantity-asked type b i j);
-      step = λ type b c r e. rw (step-as e) (stepped type b (paperCursor c));
-      write = λ x ts gs out after r c. rw (write-as c .answers, write-as c .leaves) (written (paperRecord x) ts gs out);
+      step = λ type b c r e. rw (step-as e) (stepped type b (meansCursor c));
+      write = λ x ts gs out after r c. rw (write-as c .answers, write-as c .leaves) (written (meansRecord x) ts gs out);
       set-up = λ numbers r c. every (λ (a : Ready). Kept (setUpRules numbers) (a .said) (blankOf []) (a .tracker)) (set-up-as c) (started numbers);
       zero-breaks = λ k. omega (arith, k .one);
       arrival = λ t k e r c. every (λ (a : Outcome). Kept (arrivalRules t k e) (a .said) t (a .next)) (arrives-as c) (arrives t k e);

@@ -12,22 +12,22 @@ use lib.Seq.{ext-getD}
 use borrow.Author.Tests.{eqb-false, ltb-false, not-false, le-ltb}
 use Rattle.wire.specs.Answer.{Answer, accepted, refused, guard}
 use Rattle.wire.specs.Refusal.{tableFull, noSuchChannel, malformed}
-use Rattle.gaps.specs.Channel.{Channel, fresh, Event, tick, Said, new, late, duplicate, heard, Step, judged, tooLow, heartbeat, announced}
+use Rattle.gaps.specs.Channel.{Channel, fresh, Event, tick, ArrivalSaid, new, late, duplicate, heard, Step, judgeEvent, tooLow, heartbeat, announced}
 use Rattle.gaps.proofs.Exact.{Exact, forms}
 use Rattle.gaps.proofs.Alone as alone
 use Rattle.gaps.proofs.Alone.{Judged, judge, words, play, answers, history, exact, nine, says-new, says-late, says-duplicate, Never}
 use Rattle.tracker.specs.declared.Tracker.{Tracker}
 use Rattle.tracker.specs.declared.Start.the-variants.{SetUp}
 use Rattle.tracker.specs.declared.Reply.{Reply}
-use Rattle.tracker.specs.Places.{channel}
+use Rattle.tracker.specs.Places.{channelAt}
 use Rattle.seats.specs.Rules.{ascends}
-use Rattle.tracker.specs.SetUp.{blankOf, setUp, Ready, given, saidOf as beganOf}
-use Rattle.tracker.specs.Arrived.{Arrival, on, place, Outcome, settled, arrived, saidOf, paper}
+use Rattle.tracker.specs.SetUp.{blankOf, setUp, Ready, setUpGives, setUpSaid as beganOf}
+use Rattle.tracker.specs.Arrived.{Arrival, on, place, Outcome, settled, arrive, arrivalSaid, meansReply}
 use Rattle.tracker.specs.Rules.{wellFormed}
 use Rattle.tracker.proofs.Seated.{arrived-at}
 use Rattle.tracker.proofs.Unique.{named}
 use Rattle.tracker.proofs.Holder.{holder, at, holder-channel, holder-start, holder-well, Listed}
-use Rattle.demands.specs.Play.{Fresh, Told, told, Play, arrivals, only, answersTo, kept, historyOf, NeverFull, Holds, recordOf, done, step}
+use Rattle.demands.specs.Play.{Fresh, Turn, turn, Play, arrivals, only, answersTo, ifAccepted, historyOf, NeverFull, Has, channelOf, done, step}
 use Rattle.demands.specs.Demand3.{HoldsItsList, TwoOrders, GapsFromHistory, MarksFromHistory, NineFromHistory, TickFromHistory, HeartbeatFromHistory, OthersRemoved, EverySetUpGives, EveryListPlays}
 use Rattle.demands.proofs.Calls.{set-up-as, arrives-as, sets-up, arrives}
 use Rattle.demands.proofs.Played.{seat, seat-listed, seat-same, seat-test, eventsAt, answersAt, Ends, ends as played, known-fresh, all-good}
@@ -46,17 +46,17 @@ took numbers t f = go (eqb (length numbers) 0) refl (ltb 8 (length numbers)) ref
     answer : Bool → Bool → Bool → Answer Tracker
     answer x y z = guard x (refused malformed []) (guard y (refused malformed []) (guard z (refused malformed []) (accepted (blankOf numbers))))
 
-    said : given (answer (eqb (length numbers) 0) (ltb 8 (length numbers)) (not (ascends 0 numbers))) .said ≡ accepted tt
+    said : setUpGives (answer (eqb (length numbers) 0) (ltb 8 (length numbers)) (not (ascends 0 numbers))) .said ≡ accepted tt
     said = sym (ap (λ (r : Ready). r .said) (set-up-as (f .promise))) ∙ ap beganOf (f .ready)
 
-    gave : t ≡ given (answer (eqb (length numbers) 0) (ltb 8 (length numbers)) (not (ascends 0 numbers))) .tracker
+    gave : t ≡ setUpGives (answer (eqb (length numbers) 0) (ltb 8 (length numbers)) (not (ascends 0 numbers))) .tracker
     gave = sym (f .gave) ∙ ap (λ (r : Ready). r .tracker) (set-up-as (f .promise))
 
     none : (n : ℕ) (v : List ℕ) → _≡_ {A = Answer Unit} (refused n v) (accepted tt) → ⊥
     none n v e = let z : _≡_ {A = ℕ} 0 1 = cc in omega arith
 
     go : (x : Bool) → eqb (length numbers) 0 ≡ x → (y : Bool) → ltb 8 (length numbers) ≡ y → (z : Bool) → not (ascends 0 numbers) ≡ z →
-        given (answer x y z) .said ≡ accepted tt → t ≡ given (answer x y z) .tracker → Took numbers t
+        setUpGives (answer x y z) .said ≡ accepted tt → t ≡ setUpGives (answer x y z) .tracker → Took numbers t
     go true a y b z c s g = absurd (none _ _ s)
     go false a true b z c s g = absurd (none _ _ s)
     go false a false b true c s g = absurd (none _ _ s)
@@ -71,7 +71,7 @@ took numbers t f = go (eqb (length numbers) 0) refl (ltb 8 (length numbers)) ref
 abbrev start : List ℕ → List Channel
 start ns = replicate (length ns) (fresh 1)
 
-module _ (ns : List ℕ) (t u : Tracker) (l : List Told) (f : Fresh ns t) (p : Play t l u) where
+module _ (ns : List ℕ) (t u : Tracker) (l : List Turn) (f : Fresh ns t) (p : Play t l u) where
   listed : Listed ns
   listed = took ns t f .listed
 
@@ -93,23 +93,23 @@ module _ (ns : List ℕ) (t u : Tracker) (l : List Told) (f : Fresh ns t) (p : P
   told-at : (j : ℕ) → j < length ns → answersAt ns j l ≡ answers (fresh 1) (eventsAt ns j (arrivals l))
   told-at j h = final .said j h ∙ ap (λ (c : Channel). answers c (eventsAt ns j (arrivals l))) (start-at j h)
 
-  module _ (k : ℕ) (h : Holds t k) where
+  module _ (k : ℕ) (h : Has t k) where
     seated : seat ns k < length ns
     seated = let g : place (holder ns (start ns)) k < length ns = rw began at h in rw (seat-same ns (start ns) k) at g
 
     place-last : place u k ≡ seat ns k
     place-last = ap (λ (x : Tracker). place x k) (final .last) ∙ seat-same ns (final .rows) k
 
-    row-last : channel u (seat ns k) ≡ at (final .rows) (seat ns k)
-    row-last = ap (λ (x : Tracker). channel x (seat ns k)) (final .last) ∙ (holder-channel ns (final .rows) (all-good (final .rows) (final .known)) (seat ns k) (omega (arith, final .size, seated)))
+    row-last : channelAt u (seat ns k) ≡ at (final .rows) (seat ns k)
+    row-last = ap (λ (x : Tracker). channelAt x (seat ns k)) (final .last) ∙ (holder-channel ns (final .rows) (all-good (final .rows) (final .known)) (seat ns k) (omega (arith, final .size, seated)))
 
-    record-last : recordOf u k ≡ play (fresh 1) (eventsAt ns (seat ns k) (arrivals l))
+    record-last : channelOf u k ≡ play (fresh 1) (eventsAt ns (seat ns k) (arrivals l))
     record-last = rw place-last (row-last ∙ mine (seat ns k) seated)
 
 -- ---- the channel's own events, answers and history
 
 module _ (ns : List ℕ) (k : ℕ) (h : seat ns k < length ns) where
-  answers-to : (l : List Told) → answersTo k l ≡ answersAt ns (seat ns k) l
+  answers-to : (l : List Turn) → answersTo k l ≡ answersAt ns (seat ns k) l
   answers-to [] = refl
   answers-to (x ∷ l) = rw (seat-test ns (x .arrival .channel) k h, answers-to l)
 
@@ -123,41 +123,41 @@ module _ (ns : List ℕ) (k : ℕ) (h : seat ns k < length ns) where
       go false e ih = rw (e, ih)
 
   -- the events that the answers accept
-  abbrev sift : List Event → List (Answer Said) → List Event
+  abbrev sift : List Event → List (Answer ArrivalSaid) → List Event
   sift [] vs = []
   sift (e ∷ es) [] = []
-  sift (e ∷ es) (v ∷ vs) = kept v e (sift es vs)
+  sift (e ∷ es) (v ∷ vs) = ifAccepted v e (sift es vs)
 
-  history-sift : (l : List Told) → historyOf k l ≡ sift (eventsAt ns (seat ns k) (arrivals l)) (answersAt ns (seat ns k) l)
+  history-sift : (l : List Turn) → historyOf k l ≡ sift (eventsAt ns (seat ns k) (arrivals l)) (answersAt ns (seat ns k) l)
   history-sift [] = refl
   history-sift (x ∷ l) = rw (seat-test ns (x .arrival .channel) k h, history-sift l) (go (eqb (x .arrival .channel) k))
     where
       es : List Event
       es = eventsAt ns (seat ns k) (arrivals l)
 
-      vs : List (Answer Said)
+      vs : List (Answer ArrivalSaid)
       vs = answersAt ns (seat ns k) l
 
-      go : (b : Bool) → cond b (kept (x .said) (x .arrival .event) (sift es vs)) (sift es vs) ≡ sift (cond b (x .arrival .event ∷ es) es) (cond b (x .said ∷ vs) vs)
+      go : (b : Bool) → cond b (ifAccepted (x .said) (x .arrival .event) (sift es vs)) (sift es vs) ≡ sift (cond b (x .arrival .event ∷ es) es) (cond b (x .said ∷ vs) vs)
       go true = refl
       go false = refl
 
   sift-answers : (c : Channel) (es : List Event) → sift es (answers c es) ≡ history c es
   sift-answers c [] = refl
-  sift-answers c (e ∷ es) = rw (sift-answers (alone.after c e) es) (go (judged c e) (history (alone.after c e) es))
+  sift-answers c (e ∷ es) = rw (sift-answers (alone.after c e) es) (go (judgeEvent c e) (history (alone.after c e) es))
     where
-      go : (a : Answer Step) (g : List Event) → kept (words a) e g ≡ alone.kept a e g
+      go : (a : Answer Step) (g : List Event) → ifAccepted (words a) e g ≡ alone.kept a e g
       go (accepted s) g = refl
       go (refused n v) g = refl
 
 -- ---- a channel after a playing
 
-pub record View (ns : List ℕ) (t u : Tracker) (l : List Told) (k : ℕ) : Type 0 where
-  pub right : Exact 1 (recordOf u k) (historyOf k l)
-  pub size : length (recordOf u k .runs) ≤ 32
-  pub answer : (e : Event) (r : Reply) → paper r ≡ arrived u (on k e) → saidOf (r .verdict) ≡ words (judged (recordOf u k) e)
+pub record View (ns : List ℕ) (t u : Tracker) (l : List Turn) (k : ℕ) : Type 0 where
+  pub right : Exact 1 (channelOf u k) (historyOf k l)
+  pub size : length (channelOf u k .runs) ≤ 32
+  pub answer : (e : Event) (r : Reply) → meansReply r ≡ arrive u (on k e) → arrivalSaid (r .verdict) ≡ words (judgeEvent (channelOf u k) e)
 
-pub view : (ns : List ℕ) (t u : Tracker) (l : List Told) → Fresh ns t → Play t l u → (k : ℕ) → Holds t k → View ns t u l k
+pub view : (ns : List ℕ) (t u : Tracker) (l : List Turn) → Fresh ns t → Play t l u → (k : ℕ) → Has t k → View ns t u l k
 view ns t u l f p k h =
     let s = seated ns t u l f p k h in
     let e = final ns t u l f p in
@@ -165,18 +165,18 @@ view ns t u l f p k h =
     let d : historyOf k l ≡ history (fresh 1) (eventsAt ns (seat ns k) (arrivals l)) =
     history-sift ns k s l ∙ ap (sift ns k s (eventsAt ns (seat ns k) (arrivals l))) (told-at ns t u l f p (seat ns k) s) ∙ sift-answers ns k s (fresh 1) (eventsAt ns (seat ns k) (arrivals l)) in
     let g : seat ns k < length (e .rows) = omega (arith, e .size, s) in
-    let z : recordOf u k ≡ at (e .rows) (seat ns k) = ap (channel u) (place-last ns t u l f p k h) ∙ row-last ns t u l f p k h in
+    let z : channelOf u k ≡ at (e .rows) (seat ns k) = ap (channelAt u) (place-last ns t u l f p k h) ∙ row-last ns t u l f p k h in
     record {
       right = subst (λ (c : Channel). Exact 1 c (historyOf k l)) (sym m) (rw d (exact 1 (omega arith) (eventsAt ns (seat ns k) (arrivals l))));
       size = subst (λ (c : Channel). length (c .runs) ≤ 32) (sym z) (e .known (seat ns k) g .size);
-      answer = λ x r q. ap (λ (o : Outcome). o .said) (q ∙ at-last x) ∙ settled-said (judged (recordOf u k) x);
+      answer = λ x r q. ap (λ (o : Outcome). o .said) (q ∙ at-last x) ∙ settled-said (judgeEvent (channelOf u k) x);
     }
   where
     settled-said : (a : Answer Step) → settled u (place u k) a .said ≡ words a
     settled-said (accepted s) = refl
     settled-said (refused n v) = refl
 
-    at-last : (x : Event) → arrived u (on k x) ≡ settled u (place u k) (judged (recordOf u k) x)
+    at-last : (x : Event) → arrive u (on k x) ≡ settled u (place u k) (judgeEvent (channelOf u k) x)
     at-last x =
         let s = seated ns t u l f p k h in
         let e = final ns t u l f p in
@@ -189,7 +189,7 @@ view ns t u l f p k h =
 pub holds-its-list : HoldsItsList
 holds-its-list ns t f k =
     let b = took ns t f .gave ∙ holder-start ns (took ns t f .listed .most) in
-    let e : Holds (holder ns (start ns)) k ↔ List·Memᴰ k ns = rw (seat-same ns (start ns) k) (seat-listed ns k) in
+    let e : Has (holder ns (start ns)) k ↔ List·Memᴰ k ns = rw (seat-same ns (start ns) k) (seat-listed ns k) in
     rw b e
 
 pub gaps-from-history : GapsFromHistory
@@ -201,13 +201,13 @@ marks-from-history ns t u l f p k h = let x = view ns t u l f p k h .right in (x
 pub nine-from-history : NineFromHistory
 nine-from-history ns t u l f p k h e r low q =
     let v = view ns t u l f p k h in
-    rw (v .answer e r (arrives-as q)) (nine 1 (recordOf u k) (historyOf k l) (v .right) e low)
+    rw (v .answer e r (arrives-as q)) (nine 1 (channelOf u k) (historyOf k l) (v .right) e low)
 
 pub tick-from-history : TickFromHistory
 tick-from-history ns t u l f p k h n r s q =
     let v = view ns t u l f p k h in
     let low : tooLow (tick (pos n)) ≡ false = le-ltb n 1 s in
-    let c = recordOf u k in
+    let c = channelOf u k in
     let g = historyOf k l in
     rw (v .answer (tick (pos n)) r (arrives-as q))
     (says-new 1 c g (v .right) n low, says-late 1 c g (v .right) n low s, says-duplicate 1 c g (v .right) n low s (v .size))
@@ -219,7 +219,7 @@ heartbeat-from-history ns t u l f p k h m end r q =
     let e = heartbeat (pos m) end in
     let low : tooLow e ≡ false = le-ltb m 0 zero-le in
     rw (v .answer e r (arrives-as q))
-    (λ w. alone.accepted-says 1 (recordOf u k) (historyOf k l) (v .right) e heard w .1, λ w. alone.accepts 1 (recordOf u k) (historyOf k l) (v .right) e low w)
+    (λ w. alone.accepted-says 1 (channelOf u k) (historyOf k l) (v .right) e heard w .1, λ w. alone.accepts 1 (channelOf u k) (historyOf k l) (v .right) e low w)
 
 pub others-removed : OthersRemoved
 others-removed ns t u v l m f p q k h e =
@@ -246,7 +246,7 @@ events-perm ns j (List·Permᴰ·swap {a} {b} {l = l} e g) = rw (sym e, sym g) (
     go false false = Permᴰ·refl _
 events-perm ns j (List·Permᴰ·trans p q) = List·Permᴰ·trans (events-perm ns j p) (events-perm ns j q)
 
-never-at : (ns : List ℕ) (j : ℕ) (l : List Told) → NeverFull l → Never (refused tableFull []) (answersAt ns j l)
+never-at : (ns : List ℕ) (j : ℕ) (l : List Turn) → NeverFull l → Never (refused tableFull []) (answersAt ns j l)
 never-at ns j [] f = tt
 never-at ns j (x ∷ l) f = go (eqb (seat ns (x .arrival .channel)) j) (never-at ns j l (f .1))
   where
@@ -281,39 +281,39 @@ every-set-up-gives numbers e =
     record { answer = record { verdict = SetUp; tracker = x .tracker }; promise = sets-up numbers (record { verdict = SetUp; tracker = x .tracker }) y; ready = refl; gave = refl }
 
 -- the word that an arrival is answered is one of the code's
-pub answer-named : (t : Tracker) (a : Arrival) → saidOf (named (arrived t a .said)) ≡ arrived t a .said
-unfolding arrived named guard
-answer-named t a = go (not (wellFormed t)) (not (ltb i (t .count))) (judged (channel t i) (a .event)) (judge (channel t i) (a .event))
+pub answer-named : (t : Tracker) (a : Arrival) → arrivalSaid (named (arrive t a .said)) ≡ arrive t a .said
+unfolding arrive named guard
+answer-named t a = go (not (wellFormed t)) (not (ltb i (t .count))) (judgeEvent (channelAt t i) (a .event)) (judge (channelAt t i) (a .event))
   where
     i : ℕ
     i = place t (a .channel)
 
-    word : (s : Said) → saidOf (named (accepted s)) ≡ accepted s
+    word : (s : ArrivalSaid) → arrivalSaid (named (accepted s)) ≡ accepted s
     word new = refl
     word late = refl
     word duplicate = refl
     word heard = refl
 
-    go : (x y : Bool) (z : Answer Step) → Judged (channel t i) (a .event) z →
-        saidOf (named (settled t i (guard x (refused malformed []) (guard y (refused noSuchChannel []) z)) .said)) ≡ settled t i (guard x (refused malformed []) (guard y (refused noSuchChannel []) z)) .said
+    go : (x y : Bool) (z : Answer Step) → Judged (channelAt t i) (a .event) z →
+        arrivalSaid (named (settled t i (guard x (refused malformed []) (guard y (refused noSuchChannel []) z)) .said)) ≡ settled t i (guard x (refused malformed []) (guard y (refused noSuchChannel []) z)) .said
     go true y z j = refl
     go false true z j = refl
     go false false z (alone.low p) = refl
     go false false z (alone.full p q) = refl
     go false false z (alone.took p q) = word _
 
-abbrev pub outcome : Answer Said → Tracker → Outcome
+abbrev pub outcome : Answer ArrivalSaid → Tracker → Outcome
 outcome v t = record { said = v; next = t }
 
 pub every-list-plays : EveryListPlays
 every-list-plays t [] c = record { steps = []; end = t; plays = done; same = refl }
 every-list-plays t (a ∷ l) c =
-    let o = arrived t a in
+    let o = arrive t a in
     let r : Reply = record { verdict = named (o .said); next = o .next } in
-    let e : paper r ≡ o = ap (λ (v : Answer Said). outcome v (o .next)) (answer-named t a) in
+    let e : meansReply r ≡ o = ap (λ (v : Answer ArrivalSaid). outcome v (o .next)) (answer-named t a) in
     let x = every-list-plays (o .next) l (c .1) in
     record {
-      steps = told a (saidOf (named (o .said))) ∷ x .steps;
+      steps = turn a (arrivalSaid (named (o .said))) ∷ x .steps;
       end = x .end;
       plays = step a r (c .0) (arrives t (a .channel) (a .event) r e) (x .plays);
       same = ap (λ (m : List Arrival). a ∷ m) (x .same);

@@ -1,9 +1,9 @@
 -- The tracker's rules, place by place, are what the test of a tracker tests.
 -- Assumes nothing.
 use Prim.Native.Nat.{ℕ, zero, suc, _+_, _*_, _-_, _/_, _%_, _≤_, _<_, zero-le}
-use mathlib.Core.Path.{_≡_, refl, ap}
-use mathlib.Core.Bool.{Bool, true, false, not}
-use mathlib.Core.Logic.{_⊎_, ⊎-elim}
+use mathlib.Core.Path.{_≡_, refl}
+use mathlib.Core.Bool.{Bool, true, not}
+use mathlib.Core.Logic.{⊎-elim}
 use mathlib.Core.List.{List}
 use native.Mathlib.Nat.{div-add-mod', mod-lt}
 use native.Mathlib.Omega.{arith}
@@ -16,7 +16,9 @@ use Rattle.gaps.proofs.Numbers.{and-split, lt-or-le}
 use Rattle.tracker.specs.declared.Tracker.{Tracker}
 use Rattle.seats.specs.Places.{span}
 use Rattle.tracker.proofs.Seated.{well-row}
-use Rattle.seats.specs.Rules.{allZero, soundRow, soundRows, marks, blank, sound}
+use Rattle.seats.specs.Arrays.{Arrays}
+use Rattle.seats.specs.Rules.{allZero, soundRow, soundRows, soundChannels, marks, blank, unused, sound}
+use Rattle.tracker.specs.Places.{arraysOf}
 use Rattle.tracker.specs.Rules.{wellFormed}
 use Rattle.demands.specs.Conditions.{firstOf, lastOf, Keeps}
 
@@ -139,47 +141,47 @@ module _ (h n : ℕ) (f l : List ℕ) (b : ℕ) where
 
 -- ---- channels in turn
 
-module _ (ns hs cs f l : List ℕ) where
+module _ (a : Arrays) where
   abbrev row : ℕ → Bool
-  row i = soundRow (getD hs i 0) (getD cs i 0) f l (i * 32)
+  row i = soundRow (getD (a .highest) i 0) (getD (a .counts) i 0) (a .first) (a .last) (i * 32)
 
-  rows-low : (lo i n : ℕ) → soundRows ns hs cs f l lo i n ≡ true → 0 < n → lo ≤ getD ns i 0
+  rows-low : (lo i n : ℕ) → soundRows a lo i n ≡ true → 0 < n → lo ≤ getD (a .numbers) i 0
   unfolding soundRows
   rows-low lo i zero e h = absurd (omega arith)
-  rows-low lo i (suc n) e h = leb-true lo (getD ns i 0) (and-split (leb lo (getD ns i 0)) _ e .0)
+  rows-low lo i (suc n) e h = leb-true lo (getD (a .numbers) i 0) (and-split (leb lo (getD (a .numbers) i 0)) _ e .0)
 
-  rows-rise : (lo i n j : ℕ) → soundRows ns hs cs f l lo i n ≡ true → suc j < n → getD ns (i + j) 0 < getD ns (i + suc j) 0
+  rows-rise : (lo i n j : ℕ) → soundRows a lo i n ≡ true → suc j < n → getD (a .numbers) (i + j) 0 < getD (a .numbers) (i + suc j) 0
   unfolding soundRows
   rows-rise lo i zero j e h = absurd (omega arith)
   rows-rise lo i (suc n) zero e h =
       let z : i + 0 ≡ i = omega arith in
       let y : i + 1 ≡ suc i = omega arith in
-      let on = and-split (row i) _ (and-split (leb lo (getD ns i 0)) _ e .1) .1 in
-      rw (z, y) (omega (arith, rows-low (getD ns i 0 + 1) (suc i) n on (omega arith)))
+      let on = and-split (row i) _ (and-split (leb lo (getD (a .numbers) i 0)) _ e .1) .1 in
+      rw (z, y) (omega (arith, rows-low (getD (a .numbers) i 0 + 1) (suc i) n on (omega arith)))
   rows-rise lo i (suc n) (suc j) e h =
       let z : i + suc j ≡ suc i + j = omega arith in
       let y : i + suc (suc j) ≡ suc i + suc j = omega arith in
-      let on = and-split (row i) _ (and-split (leb lo (getD ns i 0)) _ e .1) .1 in
-      rw (z, y) (rows-rise (getD ns i 0 + 1) (suc i) n j on (omega arith))
+      let on = and-split (row i) _ (and-split (leb lo (getD (a .numbers) i 0)) _ e .1) .1 in
+      rw (z, y) (rows-rise (getD (a .numbers) i 0 + 1) (suc i) n j on (omega arith))
 
   rows-sound :
-      (lo i n : ℕ) → (0 < n → lo ≤ getD ns i 0) → ((j : ℕ) → j < n → row (i + j) ≡ true) →
-      ((j : ℕ) → suc j < n → getD ns (i + j) 0 < getD ns (i + suc j) 0) → soundRows ns hs cs f l lo i n ≡ true
+      (lo i n : ℕ) → (0 < n → lo ≤ getD (a .numbers) i 0) → ((j : ℕ) → j < n → row (i + j) ≡ true) →
+      ((j : ℕ) → suc j < n → getD (a .numbers) (i + j) 0 < getD (a .numbers) (i + suc j) 0) → soundRows a lo i n ≡ true
   unfolding soundRows
   rows-sound lo i zero low each rise = refl
   rows-sound lo i (suc n) low each rise =
       let z : i + 0 ≡ i = omega arith in
       let y : i + 1 ≡ suc i = omega arith in
-      let a : row i ≡ true = rw z at (each 0 (omega arith)) in
+      let g : row i ≡ true = rw z at (each 0 (omega arith)) in
       let on =
-      rows-sound (getD ns i 0 + 1) (suc i) n
-      (λ k. let g : getD ns i 0 < getD ns (suc i) 0 = rw (z, y) at (rise 0 (omega arith)) in omega (arith, g))
+      rows-sound (getD (a .numbers) i 0 + 1) (suc i) n
+      (λ k. let v : getD (a .numbers) i 0 < getD (a .numbers) (suc i) 0 = rw (z, y) at (rise 0 (omega arith)) in omega (arith, v))
       (λ j k. let x : i + suc j ≡ suc i + j = omega arith in rw x at (each (suc j) (omega arith)))
       (λ j k.
       let x : i + suc j ≡ suc i + j = omega arith in
       let w : i + suc (suc j) ≡ suc i + suc j = omega arith in
       rw (x, w) at (rise (suc j) (omega arith))) in
-      rw (le-leb lo (getD ns i 0) (low (omega arith)), a, on)
+      rw (le-leb lo (getD (a .numbers) i 0) (low (omega arith)), g, on)
 
 module _ (es : List ℕ) where
   marks-at : (i n j : ℕ) → marks es i n ≡ true → j < n → getD es (i + j) 0 ≤ 1
@@ -199,48 +201,48 @@ module _ (es : List ℕ) where
       let on = marks-all (suc i) n (λ j k. let y : i + suc j ≡ suc i + j = omega arith in rw y at (h (suc j) (omega arith))) in
       rw (le-leb (getD es i 0) 1 a, on)
 
-module _ (ns hs es cs : List ℕ) where
+module _ (a : Arrays) where
   abbrev Zero : ℕ → Type 0
-  Zero i = (getD ns i 0 ≡ 0) × (getD hs i 0 ≡ 0) × (getD es i 0 ≡ 0) × (getD cs i 0 ≡ 0)
+  Zero i = (getD (a .numbers) i 0 ≡ 0) × (getD (a .highest) i 0 ≡ 0) × (getD (a .ended) i 0 ≡ 0) × (getD (a .counts) i 0 ≡ 0)
 
-  blank-at : (i n j : ℕ) → blank ns hs es cs i n ≡ true → j < n → Zero (i + j)
+  blank-at : (i n j : ℕ) → blank a i n ≡ true → j < n → Zero (i + j)
   unfolding blank
   blank-at i zero j e h = absurd (omega arith)
   blank-at i (suc n) zero e h =
       let z : i + 0 ≡ i = omega arith in
-      let p = and-split (eqb (getD ns i 0) 0) _ e in
-      let q = and-split (eqb (getD hs i 0) 0) _ (p .1) in
-      let r = and-split (eqb (getD es i 0) 0) _ (q .1) in
-      let s = and-split (eqb (getD cs i 0) 0) _ (r .1) in
-      rw z (eqb-true (getD ns i 0) 0 (p .0), eqb-true (getD hs i 0) 0 (q .0), eqb-true (getD es i 0) 0 (r .0), eqb-true (getD cs i 0) 0 (s .0))
+      let p = and-split (eqb (getD (a .numbers) i 0) 0) _ e in
+      let q = and-split (eqb (getD (a .highest) i 0) 0) _ (p .1) in
+      let r = and-split (eqb (getD (a .ended) i 0) 0) _ (q .1) in
+      let s = and-split (eqb (getD (a .counts) i 0) 0) _ (r .1) in
+      rw z (eqb-true (getD (a .numbers) i 0) 0 (p .0), eqb-true (getD (a .highest) i 0) 0 (q .0), eqb-true (getD (a .ended) i 0) 0 (r .0), eqb-true (getD (a .counts) i 0) 0 (s .0))
   blank-at i (suc n) (suc j) e h =
       let z : i + suc j ≡ suc i + j = omega arith in
-      let p = and-split (eqb (getD ns i 0) 0) _ e in
-      let q = and-split (eqb (getD hs i 0) 0) _ (p .1) in
-      let r = and-split (eqb (getD es i 0) 0) _ (q .1) in
-      let s = and-split (eqb (getD cs i 0) 0) _ (r .1) in
+      let p = and-split (eqb (getD (a .numbers) i 0) 0) _ e in
+      let q = and-split (eqb (getD (a .highest) i 0) 0) _ (p .1) in
+      let r = and-split (eqb (getD (a .ended) i 0) 0) _ (q .1) in
+      let s = and-split (eqb (getD (a .counts) i 0) 0) _ (r .1) in
       rw z (blank-at (suc i) n j (s .1) (omega arith))
 
-  blank-all : (i n : ℕ) → ((j : ℕ) → j < n → Zero (i + j)) → blank ns hs es cs i n ≡ true
+  blank-all : (i n : ℕ) → ((j : ℕ) → j < n → Zero (i + j)) → blank a i n ≡ true
   unfolding blank
   blank-all i zero h = refl
   blank-all i (suc n) h =
       let z : i + 0 ≡ i = omega arith in
-      let a : Zero i = rw z at (h 0 (omega arith)) in
+      let g : Zero i = rw z at (h 0 (omega arith)) in
       let on = blank-all (suc i) n (λ j k. let y : i + suc j ≡ suc i + j = omega arith in rw y at (h (suc j) (omega arith))) in
-      rw (eq-eqb (getD ns i 0) 0 (a .0), eq-eqb (getD hs i 0) 0 (a .1), eq-eqb (getD es i 0) 0 (a .2), eq-eqb (getD cs i 0) 0 (a .3), on)
+      rw (eq-eqb (getD (a .numbers) i 0) 0 (g .0), eq-eqb (getD (a .highest) i 0) 0 (g .1), eq-eqb (getD (a .ended) i 0) 0 (g .2), eq-eqb (getD (a .counts) i 0) 0 (g .3), on)
 
 -- ---- the tracker
 
 module _ (t : Tracker) where
   pub keeps-yes : wellFormed t ≡ true → Keeps t
-  unfolding wellFormed sound
+  unfolding wellFormed sound soundChannels unused
   keeps-yes e =
       let p = and-split (not (eqb (t .count) 0)) _ e in
       let q = and-split (leb (t .count) 8) _ (p .1) in
-      let r = and-split (soundRows (t .numbers) (t .highest) (t .counts) (t .first) (t .last) 0 0 (t .count)) _ (q .1) in
-      let s = and-split (marks (t .ended) 0 8) _ (r .1) in
-      let u = and-split (blank (t .numbers) (t .highest) (t .ended) (t .counts) (t .count) (8 - t .count)) _ (s .1) in
+      let s = and-split (soundChannels (arraysOf t)) _ (q .1) in
+      let r = and-split (soundRows (arraysOf t) 0 0 (t .count)) _ (s .0) in
+      let u = and-split (blank (arraysOf t) (t .count) (8 - t .count)) _ (s .1) in
       let few = leb-true (t .count) 8 (q .0) in
       record {
         one = omega (arith, eqb-false (t .count) 0 (not-true _ (p .0)));
@@ -248,15 +250,15 @@ module _ (t : Tracker) where
         ascending = λ i h.
             (let x : 0 + i ≡ i = omega arith in
             let y : 0 + suc i ≡ suc i = omega arith in
-            rw (x, y) at (rows-rise (t .numbers) (t .highest) (t .counts) (t .first) (t .last) 0 0 (t .count) i (r .0) h));
+            rw (x, y) at (rows-rise (arraysOf t) 0 0 (t .count) i (r .0) h));
         highest = λ i h. at-row e i h .high;
-        mark = λ i h. (let x : 0 + i ≡ i = omega arith in rw x at (marks-at (t .ended) 0 8 i (s .0) h));
+        mark = λ i h. (let x : 0 + i ≡ i = omega arith in rw x at (marks-at (t .ended) 0 8 i (r .1) h));
         runs = λ i h. at-row e i h .few;
         inside = λ i j h k. at-row e i h .inside j k;
         apart = λ i j h k. at-row e i h .apart j k;
         unused = λ i h k.
             (let x : t .count + (i - t .count) ≡ i = omega arith in
-            rw x at (blank-at (t .numbers) (t .highest) (t .ended) (t .counts) (t .count) (8 - t .count) (i - t .count) (u .0) (omega arith)));
+            rw x at (blank-at (arraysOf t) (t .count) (8 - t .count) (i - t .count) (u .0) (omega arith)));
         empty = λ i j h k m. ⊎-elim (λ g. at-row e i g .empty j k m) (λ g. behind i j h g m (u .1)) (lt-or-le i (t .count));
       }
     where
@@ -269,19 +271,19 @@ module _ (t : Tracker) where
           rw x at (zero-at (t .first) (t .last) (t .count * 32) (256 - t .count * 32) (i * 32 + j - t .count * 32) z (omega arith))
 
   pub keeps-sound : Keeps t → wellFormed t ≡ true
-  unfolding wellFormed sound
+  unfolding wellFormed sound soundChannels unused
   keeps-sound k =
       let some = k .one in
       let few = k .eight in
       let a =
-      rows-sound (t .numbers) (t .highest) (t .counts) (t .first) (t .last) 0 0 (t .count) (λ h. zero-le)
+      rows-sound (arraysOf t) 0 0 (t .count) (λ h. zero-le)
       (λ j h. let x : 0 + j ≡ j = omega arith in rw x (the-row j h))
       (λ j h.
       let x : 0 + j ≡ j = omega arith in
       let y : 0 + suc j ≡ suc j = omega arith in
       rw (x, y) (k .ascending j h)) in
       let b = marks-all (t .ended) 0 8 (λ j h. let x : 0 + j ≡ j = omega arith in rw x (k .mark j h)) in
-      let c = blank-all (t .numbers) (t .highest) (t .ended) (t .counts) (t .count) (8 - t .count) (λ j h. k .unused (t .count + j) (omega arith) (omega arith)) in
+      let c = blank-all (arraysOf t) (t .count) (8 - t .count) (λ j h. k .unused (t .count + j) (omega arith) (omega arith)) in
       let d = all-zero (t .first) (t .last) (t .count * 32) (256 - t .count * 32) (λ j h. tail j (omega (arith, few))) in
       rw (ne-eqb (t .count) 0 (λ z. omega (arith, some, z)), le-leb (t .count) 8 few, a, b, c, d)
     where

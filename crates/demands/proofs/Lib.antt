@@ -5,11 +5,13 @@ pub mod Keeps
 pub mod Rules
 pub mod Demand1
 pub mod Back
+pub mod Tail
 pub mod Demand2
 pub mod Demand3
 pub mod Played
 pub mod Requests
 pub mod Checked
-pub mod Known
 pub mod Receiver
 pub mod CalledFromC
+pub mod CheckedFromC
+pub mod Interface

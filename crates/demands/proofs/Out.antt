@@ -10,7 +10,7 @@ use lib.IntN.{ℤ}
 use Rattle.wire.specs.Bytes.{beAt}
 use Rattle.layout.specs.Kind.{Kind, quantity, form, width, ranged}
 use Rattle.layout.specs.Layout.{Message, fields, Group, ranges}
-use Rattle.layout.specs.Group.{shown, shownPlace, next, place, quantities, groupRanges, group, start, count, inRange}
+use Rattle.layout.specs.Group.{shown, shownOffset, nextOffset, groupOffset, quantities, groupRanges, group, groupsStart, count, inRange}
 use Rattle.layout.proofs.Walk.{and-both}
 use Rattle.bodies.specs.Body.{bits, first, numbersBehind, stated, numbersIn, allIn}
 use Rattle.demands.specs.Conditions as out
@@ -78,34 +78,34 @@ quantities-in (suc n) s at (suc j) e h =
 
 module _ (g : Group) (s : List ℕ) where
   abbrev fine : ℕ → Bool
-  fine at = ranges (g .fields) s at && quantities (shown g s at) s (shownPlace g at)
+  fine at = ranges (g .fields) s at && quantities (shown g s at) s (shownOffset g at)
 
   group-out : (at : ℕ) → fine at ≡ false → GroupOut g s at
   group-out at e = go (either (ranges (g .fields) s at) _ e)
     where
-      go : (ranges (g .fields) s at ≡ false) ⊎ (quantities (shown g s at) s (shownPlace g at) ≡ false) → GroupOut g s at
+      go : (ranges (g .fields) s at ≡ false) ⊎ (quantities (shown g s at) s (shownOffset g at) ≡ false) → GroupOut g s at
       go (inl h) = inl (fields-out (g .fields) s at h)
-      go (inr h) = inr (quantities-out (shown g s at) s (shownPlace g at) h)
+      go (inr h) = inr (quantities-out (shown g s at) s (shownOffset g at) h)
 
   group-in : (at : ℕ) → fine at ≡ true → GroupOut g s at → ⊥
   group-in at e (inl f) = fields-in (g .fields) s at (and-both (ranges (g .fields) s at) _ e .0) f
   group-in at e (inr f) =
-      both (quantities-in (shown g s at) s (shownPlace g at) (f .j) (and-both (ranges (g .fields) s at) _ e .1) (f .below)) (f .out)
+      both (quantities-in (shown g s at) s (shownOffset g at) (f .j) (and-both (ranges (g .fields) s at) _ e .1) (f .below)) (f .out)
 
   groups-out : (at k : ℕ) → groupRanges g s at k ≡ false → SomeGroupOut g s at k
-  unfolding groupRanges place
+  unfolding groupRanges groupOffset
   groups-out at zero e = absurd (true≢false e)
-  groups-out at (suc k) e = go (either (fine at) _ e) (λ f. groups-out (next g s at) k f)
+  groups-out at (suc k) e = go (either (fine at) _ e) (λ f. groups-out (nextOffset g s at) k f)
     where
-      go : (fine at ≡ false) ⊎ (groupRanges g s (next g s at) k ≡ false) → (groupRanges g s (next g s at) k ≡ false → SomeGroupOut g s (next g s at) k) → SomeGroupOut g s at (suc k)
+      go : (fine at ≡ false) ⊎ (groupRanges g s (nextOffset g s at) k ≡ false) → (groupRanges g s (nextOffset g s at) k ≡ false → SomeGroupOut g s (nextOffset g s at) k) → SomeGroupOut g s at (suc k)
       go (inl h) on = record { i = 0; below = omega arith; out = group-out at h }
       go (inr h) on = let f = on h in record { i = suc (f .i); below = omega (arith, f .below); out = f .out }
 
-  groups-in : (at k i : ℕ) → groupRanges g s at k ≡ true → i < k → GroupOut g s (place g s at i) → ⊥
-  unfolding groupRanges place
+  groups-in : (at k i : ℕ) → groupRanges g s at k ≡ true → i < k → GroupOut g s (groupOffset g s at i) → ⊥
+  unfolding groupRanges groupOffset
   groups-in at zero i e h f = omega arith
   groups-in at (suc k) zero e h f = group-in at (and-both (fine at) _ e .0) f
-  groups-in at (suc k) (suc i) e h f = groups-in (next g s at) k i (and-both (fine at) _ e .1) (omega arith) f
+  groups-in at (suc k) (suc i) e h f = groups-in (nextOffset g s at) k i (and-both (fine at) _ e .1) (omega arith) f
 
   -- one group
   pub only-out : (at : ℕ) → groupRanges g s at 1 ≡ false → GroupOut g s at
@@ -123,16 +123,16 @@ module _ (g : Group) (s : List ℕ) where
 -- ---- a body, and what is handed to the writer
 
 module _ (m : Message) (b : List ℕ) where
-  pub strays : inRange m b ≡ false → FieldOut (fields m) b 0 ⊎ SomeGroupOut (group m) b (start m) (count m b)
+  pub strays : inRange m b ≡ false → FieldOut (fields m) b 0 ⊎ SomeGroupOut (group m) b (groupsStart m) (count m b)
   strays e = go (either (ranges (fields m) b 0) _ e)
     where
-      go : (ranges (fields m) b 0 ≡ false) ⊎ (groupRanges (group m) b (start m) (count m b) ≡ false) → FieldOut (fields m) b 0 ⊎ SomeGroupOut (group m) b (start m) (count m b)
+      go : (ranges (fields m) b 0 ≡ false) ⊎ (groupRanges (group m) b (groupsStart m) (count m b) ≡ false) → FieldOut (fields m) b 0 ⊎ SomeGroupOut (group m) b (groupsStart m) (count m b)
       go (inl h) = inl (fields-out (fields m) b 0 h)
-      go (inr h) = inr (groups-out (group m) b (start m) (count m b) h)
+      go (inr h) = inr (groups-out (group m) b (groupsStart m) (count m b) h)
 
-  pub keeps : inRange m b ≡ true → FieldOut (fields m) b 0 ⊎ SomeGroupOut (group m) b (start m) (count m b) → ⊥
+  pub keeps : inRange m b ≡ true → FieldOut (fields m) b 0 ⊎ SomeGroupOut (group m) b (groupsStart m) (count m b) → ⊥
   keeps e (inl f) = fields-in (fields m) b 0 (and-both (ranges (fields m) b 0) _ e .0) f
-  keeps e (inr f) = groups-in (group m) b (start m) (count m b) (f .i) (and-both (ranges (fields m) b 0) _ e .1) (f .below) (f .out)
+  keeps e (inr f) = groups-in (group m) b (groupsStart m) (count m b) (f .i) (and-both (ranges (fields m) b 0) _ e .1) (f .below) (f .out)
 
 module _ (m : Message) (zs : List ℤ) (gs : List ℕ) where
   pub strays-written : allIn m zs gs ≡ false → NumberOut (fields m) zs ⊎ SomeGroupOut (group m) gs 0 (stated m zs)

@@ -14,7 +14,7 @@ use borrow.Author.Tests.{eqb-true, eqb-false, eq-eqb, ne-eqb}
 use Rattle.wire.specs.Answer.{Answer, accepted, refused}
 use Rattle.wire.specs.Refusal.{noSuchChannel}
 use Rattle.gaps.specs.Limits.{mostNumber}
-use Rattle.gaps.specs.Channel.{Channel, fresh, Event, Said, Step, natural, judged}
+use Rattle.gaps.specs.Channel.{Channel, fresh, Event, ArrivalSaid, Step, natural, judgeEvent}
 use Rattle.gaps.specs.History.{numberOf, top}
 use Rattle.gaps.proofs.Numbers.{lt-or-le, larger-of}
 use Rattle.gaps.proofs.Sets.{yes-canon}
@@ -23,15 +23,15 @@ use Rattle.gaps.proofs.Exact.{Exact, fresh-exact, taken-exact}
 use Rattle.gaps.proofs.Alone as alone
 use Rattle.gaps.proofs.Alone.{Judged, judge, leaves, words, after, play, answers, small}
 use Rattle.tracker.specs.declared.Tracker.{Tracker}
-use Rattle.tracker.specs.Places.{channel}
+use Rattle.tracker.specs.Places.{channelAt}
 use Rattle.tracker.specs.Rules.{wellFormed}
 use Rattle.seats.specs.Seat.{placeFrom}
-use Rattle.tracker.specs.Arrived.{Arrival, place, Outcome, settled, arrived, saidOf}
+use Rattle.tracker.specs.Arrived.{Arrival, place, Outcome, settled, arrive, arrivalSaid}
 use Rattle.tracker.proofs.Signed.{natural-most}
 use Rattle.tracker.proofs.Seated.{arrived-7, arrived-at}
 use Rattle.tracker.proofs.Holder.{holder, at, Good, AllGood, holder-put, holder-channel, holder-well, Listed}
 use Rattle.demands.proofs.Calls.{arrives-as}
-use Rattle.demands.specs.Play.{Callable, Told, told, Play, done, step, arrivals}
+use Rattle.demands.specs.Play.{Callable, Turn, turn, Play, done, step, arrivals}
 
 -- ---- one channel's record, with the history that it is exact for
 
@@ -45,7 +45,7 @@ known-good : {c : Channel} → Known c → Good c
 known-good {c} k = record { small = k .size; high = k .high; order = yes-canon 1 (c .highest) (c .runs) (k .exact .order) }
 
 known-after : (c : Channel) (e : Event) → SFits w64 (numberOf e) → Known c → Known (after c e)
-known-after c e f k = go (judged c e) (judge c e)
+known-after c e f k = go (judgeEvent c e) (judge c e)
   where
     go : (a : Answer Step) → Judged c e a → Known (leaves c a)
     go a (alone.low p) = k
@@ -157,15 +157,15 @@ module _ (ns : List ℕ) where
     settled-holder i h (refused m v) g = rw (set-getD cs i (fresh 1))
 
     arrives : (a : Arrival) → Callable a → seat (a .channel) < length ns →
-        arrived (holder ns cs) a ≡ record { said = words (judged (at cs (seat (a .channel))) (a .event)); next = holder ns (set cs (seat (a .channel)) (after (at cs (seat (a .channel))) (a .event))) }
+        arrive (holder ns cs) a ≡ record { said = words (judgeEvent (at cs (seat (a .channel))) (a .event)); next = holder ns (set cs (seat (a .channel)) (after (at cs (seat (a .channel))) (a .event))) }
     arrives a f h =
         let i = seat (a .channel) in
         let d : i < length cs = omega arith in
         arrived-at (holder ns cs) (a .channel) (a .event) well (rw (seat-same cs (a .channel)) h)
         ∙ rw (seat-same cs (a .channel), holder-channel ns cs (all-good cs k) i d)
-        (settled-holder i d (judged (at cs i) (a .event)) (known-good (known-after (at cs i) (a .event) f (k i d))))
+        (settled-holder i d (judgeEvent (at cs i) (a .event)) (known-good (known-after (at cs i) (a .event) f (k i d))))
 
-    passes : (a : Arrival) → length ns ≤ seat (a .channel) → arrived (holder ns cs) a ≡ record { said = refused noSuchChannel []; next = holder ns cs }
+    passes : (a : Arrival) → length ns ≤ seat (a .channel) → arrive (holder ns cs) a ≡ record { said = refused noSuchChannel []; next = holder ns cs }
     passes a h = arrived-7 (holder ns cs) (a .channel) (a .event) well (rw (seat-same cs (a .channel)) h)
 
 -- ---- a playing
@@ -176,12 +176,12 @@ eventsAt ns i [] = []
 eventsAt ns i (a ∷ l) = cond (eqb (seat ns (a .channel)) i) (a .event ∷ eventsAt ns i l) (eventsAt ns i l)
 
 -- what they were answered
-abbrev pub answersAt : List ℕ → ℕ → List Told → List (Answer Said)
+abbrev pub answersAt : List ℕ → ℕ → List Turn → List (Answer ArrivalSaid)
 answersAt ns i [] = []
 answersAt ns i (x ∷ l) = cond (eqb (seat ns (x .arrival .channel)) i) (x .said ∷ answersAt ns i l) (answersAt ns i l)
 
 -- the record at the end, from the records cs at the start
-pub record Ends (ns : List ℕ) (cs : List Channel) (l : List Told) (u : Tracker) : Type 0 where
+pub record Ends (ns : List ℕ) (cs : List Channel) (l : List Turn) (u : Tracker) : Type 0 where
   pub rows : List Channel
   pub last : u ≡ holder ns rows
   pub size : length rows ≡ length ns
@@ -208,14 +208,14 @@ module _ (cs : List Channel) (i : ℕ) (e : Event) (h : i < length cs) where
       go true p = rw (sym (eqb-true i j p), getD-set-same cs i (after (at cs i) e) (fresh 1) h)
       go false p = rw (getD-set-other cs i j (after (at cs i) e) (fresh 1) (λ d. eqb-false i j p (sym d)))
 
-  stepped-said : (j : ℕ) (es : List Event) → cond (eqb i j) (words (judged (at cs i) e) ∷ answers (at stepped j) es) (answers (at stepped j) es) ≡ answers (at cs j) (cond (eqb i j) (e ∷ es) es)
+  stepped-said : (j : ℕ) (es : List Event) → cond (eqb i j) (words (judgeEvent (at cs i) e) ∷ answers (at stepped j) es) (answers (at stepped j) es) ≡ answers (at cs j) (cond (eqb i j) (e ∷ es) es)
   stepped-said j es = go (eqb i j) refl
     where
-      go : (b : Bool) → eqb i j ≡ b → cond b (words (judged (at cs i) e) ∷ answers (at stepped j) es) (answers (at stepped j) es) ≡ answers (at cs j) (cond b (e ∷ es) es)
+      go : (b : Bool) → eqb i j ≡ b → cond b (words (judgeEvent (at cs i) e) ∷ answers (at stepped j) es) (answers (at stepped j) es) ≡ answers (at cs j) (cond b (e ∷ es) es)
       go true p = rw (sym (eqb-true i j p), getD-set-same cs i (after (at cs i) e) (fresh 1) h)
       go false p = rw (getD-set-other cs i j (after (at cs i) e) (fresh 1) (λ d. eqb-false i j p (sym d)))
 
-pub ends : (ns : List ℕ) → Listed ns → {t u : Tracker} {l : List Told} → Play t l u → (cs : List Channel) → t ≡ holder ns cs → length cs ≡ length ns → AllKnown cs → Ends ns cs l u
+pub ends : (ns : List ℕ) → Listed ns → {t u : Tracker} {l : List Turn} → Play t l u → (cs : List Channel) → t ≡ holder ns cs → length cs ≡ length ns → AllKnown cs → Ends ns cs l u
 ends ns o done cs e n k = record { rows = cs; last = e; size = n; known = k; mine = λ i h. refl; said = λ i h. refl }
 ends ns o (step {t} {u} {l} a r f p q) cs e n k = go (lt-or-le (seat ns (a .channel)) (length ns)) (λ ds d m y. ends ns o q ds d m y)
   where
@@ -225,12 +225,12 @@ ends ns o (step {t} {u} {l} a r f p q) cs e n k = go (lt-or-le (seat ns (a .chan
     c : Channel
     c = at cs (seat ns (a .channel))
 
-    go : (i < length ns) ⊎ (length ns ≤ i) → ((ds : List Channel) → r .next ≡ holder ns ds → length ds ≡ length ns → AllKnown ds → Ends ns ds l u) → Ends ns cs (told a (saidOf (r .verdict)) ∷ l) u
+    go : (i < length ns) ⊎ (length ns ≤ i) → ((ds : List Channel) → r .next ≡ holder ns ds → length ds ≡ length ns → AllKnown ds → Ends ns ds l u) → Ends ns cs (turn a (arrivalSaid (r .verdict)) ∷ l) u
     go (inl h) ih =
-        let w = arrives-as p ∙ ap (λ (x : Tracker). arrived x a) e ∙ arrives ns o cs n k a f h in
+        let w = arrives-as p ∙ ap (λ (x : Tracker). arrive x a) e ∙ arrives ns o cs n k a f h in
         let g : i < length cs = omega arith in
         let x = ih (stepped cs i (a .event) g) (ap (λ (z : Outcome). z .next) w) (length-set cs i (after c (a .event)) ∙ n) (stepped-known cs i (a .event) g f k) in
-        let v : saidOf (r .verdict) ≡ words (judged c (a .event)) = ap (λ (z : Outcome). z .said) w in
+        let v : arrivalSaid (r .verdict) ≡ words (judgeEvent c (a .event)) = ap (λ (z : Outcome). z .said) w in
         record {
           rows = x .rows;
           last = x .last;
@@ -240,7 +240,7 @@ ends ns o (step {t} {u} {l} a r f p q) cs e n k = go (lt-or-le (seat ns (a .chan
           said = λ j m. rw (x .said j m, v) (stepped-said cs i (a .event) g j (eventsAt ns j (arrivals l)));
         }
     go (inr h) ih =
-        let w = arrives-as p ∙ ap (λ (x : Tracker). arrived x a) e ∙ passes ns o cs n k a h in
+        let w = arrives-as p ∙ ap (λ (x : Tracker). arrive x a) e ∙ passes ns o cs n k a h in
         let x = ih cs (ap (λ (z : Outcome). z .next) w) n k in
         record {
           rows = x .rows;

@@ -6,19 +6,18 @@ use mathlib.Core.Logic.{_⊎_, inl, inr}
 use mathlib.Core.Bool.{Bool, true, false}
 use mathlib.Core.List.{List, [], _∷_, _++_}
 use native.Mathlib.Omega.{arith}
-use lib.Dec.{ltb, lit<, lit≤}
-use lib.IntN.{ℤ, pos}
+use lib.Dec.{ltb, lit<}
+use lib.IntN.{pos}
 use lib.ListN.{length, drop}
 use mir.Syntax.{w64}
-use mir.Val.{SFits, toZ}
+use mir.Val.{SFits}
 use mir.Facts.{toZ-pos, sfits-toZ}
 use Rattle.wire.specs.Answer.{Answer, accepted, refused, guard, andThen}
 use Rattle.wire.specs.Bytes.{splice}
 use Rattle.wire.specs.Refusal.{outputShort}
-use Rattle.frame.specs.Framing.{headerWidth, bodyLimit, framing}
+use Rattle.frame.specs.Framing.{headerWidth, bodyLimit, read}
 use Rattle.layout.specs.Layout.{resend, fields, typeNumber, size}
 use Rattle.bodies.specs.Body.{Numbers, none, number, words, plain, sign, body, textSize}
-use Rattle.writer.specs.Write.{frameOf, judgedAs}
 use Rattle.bodies.proofs.Bodies.{same}
 use Rattle.writer.proofs.Frames.{framed}
 use Rattle.gaps.specs.declared.Run.{Run}
@@ -29,13 +28,12 @@ use Rattle.gaps.proofs.Exact.{Exact}
 use Rattle.tracker.specs.declared.Tracker.{Tracker}
 use Rattle.tracker.specs.FirstRun.{Lost, lost, nothingMissing, foremost, firstRun}
 use Rattle.tracker.proofs.FirstRun.{first-of, first-lies}
-use Rattle.tracker.specs.Request.{batch, asked, spaces, numbersFor, requestFrame, requestLength, fitting, judging, Said, written, nothing, answerOf, outputOf, answering, leaving, paper}
-use Rattle.tracker.specs.declared.Requested.{Requested}
+use Rattle.tracker.specs.Request.{batch, asked, spaces, numbersFor, requestFrame, requestLength, roomForRequest, written, nothing, answerOf, outputAsked}
 use Rattle.tracker.proofs.Batch.{asked-all, asked-batch, asked-within}
 use Rattle.tracker.proofs.Fitting.{request-length, judged-request, answers-by, leaves-by}
-use Rattle.demands.specs.Play.{Fresh, Told, Play, historyOf, Holds, recordOf}
-use Rattle.demands.proofs.Calls.{request-as}
-use Rattle.demands.specs.Requests.{Asks, Requests, RequestReads, Lacks, AsksForMissing, RequestAsksForMissing, NothingIsMissing}
+use Rattle.demands.specs.Play.{Turn, historyOf, channelOf}
+use Rattle.demands.proofs.Calls.{frame-read-as, read-frame-as, request-as}
+use Rattle.demands.specs.Requests.{Asks, Requests, RequestReads, Misses, AsksForMissing, RequestAsksForMissing, NothingIsMissing}
 use Rattle.demands.proofs.Back.{back-known}
 use Rattle.demands.proofs.Demand3.{view}
 
@@ -52,7 +50,7 @@ module _ (k : ℕ) (r : Run) (c : k < 256 ^ 2) (low : r .first ≤ mostNumber) (
   unfolding textSize size
   long = same resend spaces [] held refl .long
 
-  frame-of : (z : List ℕ) → framing headerWidth bodyLimit (requestFrame k r ++ z) ≡ accepted (record { kind = 390094; len = 44; total = 56 })
+  frame-of : (z : List ℕ) → read headerWidth bodyLimit (requestFrame k r ++ z) ≡ accepted (record { kind = 390094; len = 44; total = 56 })
   frame-of z =
       framed (typeNumber resend) (body resend (numbersFor k r) spaces []) z (lit< tt) (omega (arith, long)) .reads ∙ rw long
 
@@ -60,14 +58,14 @@ module _ (k : ℕ) (r : Run) (c : k < 256 ^ 2) (low : r .first ≤ mostNumber) (
   unfolding splice guard
   asks out h =
       record {
-        frame = frame-of (drop (0 + length (requestFrame k r)) out);
-        fields = back-known resend held spaces [] out requestLength (judged-request k r low high (length out) ∙ rw h) .fields;
+        frame = λ a p. frame-read-as p ∙ frame-of (drop (0 + length (requestFrame k r)) out);
+        fields = λ y p. read-frame-as p ∙ back-known resend held spaces [] out requestLength (judged-request k r low high (length out) ∙ rw h) .fields;
       }
 
 module _ (t : Tracker) (k : ℕ) (c : k < 256 ^ 2) (out after : List ℕ) (n : ℕ) where
   by-room :
       (r : Run) → firstRun t k ≡ accepted (lost r) → (b : Bool) → ltb (length out) requestLength ≡ b →
-      answerOf (fitting (length out) (lost r)) ≡ accepted (written n) → after ≡ outputOf (fitting (length out) (lost r)) k out → Requests t k n after
+      answerOf (roomForRequest (length out) (lost r)) ≡ accepted (written n) → after ≡ outputAsked (roomForRequest (length out) (lost r)) k out → Requests t k n after
   unfolding guard
   by-room r f true e p q = let z : _≡_ {A = ℕ} 0 1 = cc (rw e at p) in absurd (omega arith)
   by-room r f false e p q =
@@ -84,8 +82,8 @@ module _ (t : Tracker) (k : ℕ) (c : k < 256 ^ 2) (out after : List ℕ) (n : �
       }
 
   by-first :
-      (x : Answer Lost) → firstRun t k ≡ x → answerOf (andThen x (fitting (length out))) ≡ accepted (written n) →
-      after ≡ outputOf (andThen x (fitting (length out))) k out → Requests t k n after
+      (x : Answer Lost) → firstRun t k ≡ x → answerOf (andThen x (roomForRequest (length out))) ≡ accepted (written n) →
+      after ≡ outputAsked (andThen x (roomForRequest (length out))) k out → Requests t k n after
   unfolding andThen
   by-first (accepted (lost r)) f p q = by-room r f (ltb (length out) requestLength) refl p q
   by-first (accepted nothingMissing) f p q = let z : _≡_ {A = ℕ} 0 1 = cc in absurd (omega arith)
@@ -111,21 +109,21 @@ behind : (lo h : ℕ) (r : Run) (l : List Run) → Canon lo h (r ∷ l) → In (
 behind lo h r l c (inl w) = omega (arith, w .1)
 behind lo h r l c (inr w) = omega (arith, low (r .last + 2) h l (r .last + 1) (c .3) w)
 
-module _ (u : Tracker) (l : List Told) (k : ℕ) (x : Exact 1 (recordOf u k) (historyOf k l)) (r : Run) (f : Front (recordOf u k .runs) r) where
-  order : Canon 1 (recordOf u k .highest) (r ∷ f .rest)
-  order = subst (Canon 1 (recordOf u k .highest)) (f .same) (x .order)
+module _ (u : Tracker) (l : List Turn) (k : ℕ) (x : Exact 1 (channelOf u k) (historyOf k l)) (r : Run) (f : Front (channelOf u k .runs) r) where
+  order : Canon 1 (channelOf u k .highest) (r ∷ f .rest)
+  order = subst (Canon 1 (channelOf u k .highest)) (f .same) (x .order)
 
-  within : (n : ℕ) → Lacks k l n → In (r ∷ f .rest) n
+  within : (n : ℕ) → Misses k l n → In (r ∷ f .rest) n
   within n m = subst (λ (y : List Run). In y n) (f .same) (x .back n m)
 
-  lacks : (n : ℕ) → r .first ≤ n → n ≤ r .last → Lacks k l n
+  lacks : (n : ℕ) → r .first ≤ n → n ≤ r .last → Misses k l n
   lacks n a b = x .out n (subst (λ (y : List Run). In y n) (sym (f .same)) (inl (a, b)))
 
-  lowest : (n : ℕ) → Lacks k l n → r .first ≤ n
-  lowest n m = low (r .first) (recordOf u k .highest) (r ∷ f .rest) n (omega arith, order .1, order .2, order .3) (within n m)
+  lowest : (n : ℕ) → Misses k l n → r .first ≤ n
+  lowest n m = low (r .first) (channelOf u k .highest) (r ∷ f .rest) n (omega arith, order .1, order .2, order .3) (within n m)
 
-  full : (r .last < r .first + batch) ⊎ (r .first + batch ≤ r .last) → Lacks k l (asked r .last + 1) → asked r .last + 1 ≡ asked r .first + batch
-  full (inl h) m = absurd (behind 1 (recordOf u k .highest) r (f .rest) order (within (r .last + 1) (rw (asked-all r h) at m)))
+  full : (r .last < r .first + batch) ⊎ (r .first + batch ≤ r .last) → Misses k l (asked r .last + 1) → asked r .last + 1 ≡ asked r .first + batch
+  full (inl h) m = absurd (behind 1 (channelOf u k .highest) r (f .rest) order (within (r .last + 1) (rw (asked-all r h) at m)))
   full (inr h) m = rw (asked-batch r h) (omega arith)
 
   asks-missing : (s : List ℕ) → Asks k (asked r) s → AsksForMissing k l s
@@ -151,11 +149,11 @@ module _ (u : Tracker) (l : List Told) (k : ℕ) (x : Exact 1 (recordOf u k) (hi
 pub request-asks-for-missing : RequestAsksForMissing
 request-asks-for-missing ns t u l f p k h c out after a n call e =
     let q = request-reads u k out after a n c call e in
-    let g = front (recordOf u k .runs) (q .run) (first-of u k (lost (q .run)) (q .first) .same) in
+    let g = front (channelOf u k .runs) (q .run) (first-of u k (lost (q .run)) (q .first) .same) in
     asks-missing u l k (view ns t u l f p k h .right) (q .run) g after (q .asks)
 
 -- "nothing missing" is answered where the channel has no run
-none-first : (u : Tracker) (k room : ℕ) (x : Answer Lost) → firstRun u k ≡ x → answerOf (andThen x (fitting room)) ≡ accepted nothing → firstRun u k ≡ accepted nothingMissing
+none-first : (u : Tracker) (k room : ℕ) (x : Answer Lost) → firstRun u k ≡ x → answerOf (andThen x (roomForRequest room)) ≡ accepted nothing → firstRun u k ≡ accepted nothingMissing
 unfolding andThen guard
 none-first u k room (accepted (lost r)) f p = absurd (go (ltb room requestLength) p)
   where
@@ -172,4 +170,4 @@ empty (r ∷ l) e n i = let z : _≡_ {A = ℕ} 0 1 = cc in omega arith
 pub nothing-is-missing : NothingIsMissing
 nothing-is-missing ns t u l f p k h out after a call e n m =
     let q = none-first u k (length out) (firstRun u k) refl (sym (answers-by u k out refl) ∙ sym (request-as call .answers) ∙ e) in
-    empty (recordOf u k .runs) (first-of u k nothingMissing q .same) n (view ns t u l f p k h .right .back n m)
+    empty (channelOf u k .runs) (first-of u k nothingMissing q .same) n (view ns t u l f p k h .right .back n m)

@@ -18,16 +18,16 @@ use Rattle.frame.specs.declared.Frame.{Frame}
 use Rattle.frame.proofs.Framing.{Reading, no-header, too-long, cut, wrong-sum, whole}
 use Rattle.layout.specs.Layout.{Message, fields, Listed, listed, unlisted}
 use Rattle.layout.specs.Group as group
-use Rattle.layout.specs.Group.{place, fit, inRange, judged}
+use Rattle.layout.specs.Group.{groupOffset, fit, inRange, judgeBody, even}
 use Rattle.layout.proofs.Walk.{and-both, place-beyond, needs-more, needs-no-more}
-use Rattle.record.specs.Asked.{judgedAs}
+use Rattle.record.specs.Asked.{judgeListed}
 use Rattle.record.specs.Record as record-of
 use Rattle.record.specs.Record.{known, unknown}
-use Rattle.bodies.specs.Body.{bodyLength, textSize, stated, even, exact, allIn}
+use Rattle.bodies.specs.Body.{bodyLength, textSize, stated, exact, allIn}
 use Rattle.writer.specs.Write as writer
-use Rattle.writer.specs.Write.{frameLength, judging}
+use Rattle.writer.specs.Write.{frameLength, writeJudged}
 use Rattle.demands.specs.Rules.{Rule, _if_, Judged, success, here, later}
-use Rattle.demands.specs.Conditions.{L, Lacks, Strays, Exactly}
+use Rattle.demands.specs.Conditions.{L, BodyShort, Strays, Exactly}
 use Rattle.demands.specs.Demand1.{frameRules, writerRules}
 use Rattle.demands.proofs.Out.{strays, keeps, strays-written, keeps-written}
 use Rattle.demands.specs.Demand2.{Accepted, with-value, NoneOf}
@@ -77,7 +77,7 @@ in-turn b (success {x}) r f = f x refl
 in-turn b (here {r = q} {rs} {vs} w) r f = answered (r (q .number) vs refl) (here w)
 in-turn b (later n j) r f = later n (in-turn b j r f)
 
-not-both : {A C : Type 0} {n : ℕ} {vs : List ℕ} → Accepted {A = A} (refused n vs) → C
+pub not-both : {A C : Type 0} {n : ℕ} {vs : List ℕ} → Accepted {A = A} (refused n vs) → C
 not-both = elim [ ]
 
 -- an answer that is judged is accepted exactly where no condition holds
@@ -105,13 +105,13 @@ by-reading s a (whole i) =
 
 -- ---- a body
 
-by-message : (m : Message) (b : List ℕ) → Judged (notItsLayout if Lacks (listed m) b ∷ outOfRange if Strays (listed m) b ∷ []) (judged m b)
-unfolding judged
+by-message : (m : Message) (b : List ℕ) → Judged (notItsLayout if BodyShort (listed m) b ∷ outOfRange if Strays (listed m) b ∷ []) (judgeBody m b)
+unfolding judgeBody
 by-message m b =
     tested (not (group.whole m b)) (λ e. needs-more m b (not-true _ e)) (λ e. above (needs-no-more m b (not-false _ e)))
     (λ e. tested (not (inRange m b)) (λ f. strays m b (not-true _ f)) (λ f. keeps m b (not-false _ f)) (λ f. success))
 
-pub by-body : (l : Listed) (b : List ℕ) → Judged (notItsLayout if Lacks l b ∷ outOfRange if Strays l b ∷ []) (judgedAs l b)
+pub by-body : (l : Listed) (b : List ℕ) → Judged (notItsLayout if BodyShort l b ∷ outOfRange if Strays l b ∷ []) (judgeListed l b)
 by-body (listed m) b = by-message m b
 by-body unlisted b = later (λ z. z) (later (λ z. z) success)
 
@@ -119,7 +119,7 @@ by-body unlisted b = later (λ z. z) (later (λ z. z) success)
 
 module _ (m : Message) (zs : List ℤ) (ts gs : List ℕ) where
   -- groups that the bytes lack end behind the bytes, so where they end with the bytes they are there
-  even-by : (b : Bool) → fit (group.group m) gs 0 (stated m zs) ≡ b → length gs ≡ place (group.group m) gs 0 (stated m zs) → even (group.group m) gs (stated m zs) ≡ true
+  even-by : (b : Bool) → fit (group.group m) gs 0 (stated m zs) ≡ b → length gs ≡ groupOffset (group.group m) gs 0 (stated m zs) → even (group.group m) gs (stated m zs) ≡ true
   unfolding even
   even-by true e f = rw (e, eq-eqb _ _ (sym f))
   even-by false e f = absurd (omega (arith, place-beyond (group.group m) gs 0 (stated m zs) e, f))
@@ -137,8 +137,8 @@ module _ (m : Message) (zs : List ℤ) (ts gs : List ℕ) where
       let b = even-by (fit (group.group m) gs 0 (stated m zs)) refl (x .1) in
       true≢false (sym (rw (a, b)) ∙ e)
 
-pub by-judging : (x : record-of.Reading) (ts gs : List ℕ) (room : ℕ) → Judged (writerRules x ts gs room) (judging x ts gs room)
-unfolding writer.judgedAs
+pub by-judging : (x : record-of.Reading) (ts gs : List ℕ) (room : ℕ) → Judged (writerRules x ts gs room) (writeJudged x ts gs room)
+unfolding writer.writeKnown
 by-judging (known m zs) ts gs room =
     tested (not (exact m zs ts gs)) (λ e. exactly-no m zs ts gs (not-true _ e)) (λ e x. x (exactly-yes m zs ts gs (not-false _ e)))
     (λ e.

@@ -11,14 +11,14 @@ use lib.Signed.{_<ℤ_}
 use Rattle.wire.specs.Bytes.{beAt, checksumOf}
 use Rattle.layout.specs.Kind.{Kind, quantity, form, width, ranged}
 use Rattle.layout.specs.Layout.{Message, fields, Group, Listed, listed, unlisted, named, Behind, nothing, groups, entries, entryGroup, behind}
-use Rattle.layout.specs.Group.{shown, shownPlace, next, place, group, start, count, counted, needs}
+use Rattle.layout.specs.Group.{shown, shownOffset, nextOffset, groupOffset, group, groupsStart, count, countAt, needs}
 use Rattle.entries.specs.Entry.{At}
 use Rattle.bodies.specs.Body.{bits, first, numbersBehind, textSize, stated}
 use Rattle.gaps.specs.Limits.{runLimit, mostNumber}
 use Rattle.gaps.specs.Channel.{Event, tick, heartbeat, taken}
 use Rattle.tracker.specs.declared.Tracker.{Tracker}
 use Rattle.seats.specs.Places.{channelLimit}
-use Rattle.demands.specs.Play.{recordOf}
+use Rattle.demands.specs.Play.{channelOf}
 
 -- ---- a frame, and its body
 
@@ -31,9 +31,9 @@ abbrev pub SumDiffers : List ℕ → Type 0
 SumDiffers s = beAt s (8 + L s) 4 ≡ checksumOf (take (8 + L s) s) → ⊥
 
 -- R4: a body with fewer bytes than its layout needs
-abbrev pub Lacks : Listed → List ℕ → Type 0
-Lacks (listed m) b = length b < needs m b
-Lacks unlisted b = ⊥
+abbrev pub BodyShort : Listed → List ℕ → Type 0
+BodyShort (listed m) b = length b < needs m b
+BodyShort unlisted b = ⊥
 
 -- R5: one of a layout's fields, from an offset on, is out of range
 pub data FieldOut : List Kind → List ℕ → ℕ → Type 0 where
@@ -48,17 +48,17 @@ pub record QuantityOut (n : ℕ) (s : List ℕ) (at : ℕ) : Type 0 where
 
 -- R5: a field or a shown quantity of the group at an offset is
 abbrev pub GroupOut : Group → List ℕ → ℕ → Type 0
-GroupOut g s at = FieldOut (g .fields) s at ⊎ QuantityOut (shown g s at) s (shownPlace g at)
+GroupOut g s at = FieldOut (g .fields) s at ⊎ QuantityOut (shown g s at) s (shownOffset g at)
 
 -- R5: something of one of k groups from an offset on is
 pub record SomeGroupOut (g : Group) (s : List ℕ) (at k : ℕ) : Type 0 where
   pub i : ℕ
   pub below : i < k
-  pub out : GroupOut g s (place g s at i)
+  pub out : GroupOut g s (groupOffset g s at i)
 
 -- R5: something of a body is out of range
 abbrev pub Strays : Listed → List ℕ → Type 0
-Strays (listed m) b = FieldOut (fields m) b 0 ⊎ SomeGroupOut (group m) b (start m) (count m b)
+Strays (listed m) b = FieldOut (fields m) b 0 ⊎ SomeGroupOut (group m) b (groupsStart m) (count m b)
 Strays unlisted b = ⊥
 
 -- ---- what is asked for by position
@@ -69,13 +69,13 @@ behindOf (listed m) = behind m
 behindOf unlisted = nothing
 
 abbrev pub fieldsEnd : Listed → ℕ
-fieldsEnd (listed m) = start m
+fieldsEnd (listed m) = groupsStart m
 fieldsEnd unlisted = 0
 
 -- A1, A3: the count of groups
 abbrev pub groupsIn : Behind → ℕ → List ℕ → ℕ
 groupsIn nothing end b = 0
-groupsIn (groups g) end b = counted (groups g) end b
+groupsIn (groups g) end b = countAt (groups g) end b
 groupsIn (entries e) end b = 0
 
 -- A1: the same by the type's number
@@ -86,21 +86,21 @@ groupCount type b = groupsIn (behindOf (named type)) (fieldsEnd (named type)) b
 abbrev pub entriesIn : Behind → ℕ → List ℕ → ℕ
 entriesIn nothing end b = 0
 entriesIn (groups g) end b = 0
-entriesIn (entries e) end b = counted (entries e) end b
+entriesIn (entries e) end b = countAt (entries e) end b
 
 -- A1: the same by the type's number
 abbrev pub entryCount : ℕ → List ℕ → ℕ
 entryCount type b = entriesIn (behindOf (named type)) (fieldsEnd (named type)) b
 
 -- A4: the count of quantities that entry i shows
-abbrev pub shownIn : Behind → ℕ → List ℕ → ℕ → ℕ
-shownIn nothing end b i = 0
-shownIn (groups g) end b i = 0
-shownIn (entries e) end b i = shown (entryGroup e) b (place (entryGroup e) b end i)
+abbrev pub quantitiesIn : Behind → ℕ → List ℕ → ℕ → ℕ
+quantitiesIn nothing end b i = 0
+quantitiesIn (groups g) end b i = 0
+quantitiesIn (entries e) end b i = shown (entryGroup e) b (groupOffset (entryGroup e) b end i)
 
 -- A4: the same by the type's number
 abbrev pub shownCount : ℕ → List ℕ → ℕ → ℕ
-shownCount type b i = shownIn (behindOf (named type)) (fieldsEnd (named type)) b i
+shownCount type b i = quantitiesIn (behindOf (named type)) (fieldsEnd (named type)) b i
 
 -- A6: the entries left at a cursor
 abbrev pub leftIn : Behind → At → ℕ
@@ -116,7 +116,7 @@ entriesLeft type c = leftIn (behindOf (named type)) c
 abbrev pub EntryLacks : Behind → List ℕ → At → Type 0
 EntryLacks nothing b c = ⊥
 EntryLacks (groups g) b c = ⊥
-EntryLacks (entries e) b c = (0 < c .left) × (length b < next (entryGroup e) b (c .place))
+EntryLacks (entries e) b c = (0 < c .left) × (length b < nextOffset (entryGroup e) b (c .place))
 
 abbrev pub EntryStrays : Behind → List ℕ → At → Type 0
 EntryStrays nothing b c = ⊥
@@ -127,7 +127,7 @@ EntryStrays (entries e) b c = (0 < c .left) × GroupOut (entryGroup e) b (c .pla
 
 -- W4: as many bytes of texts as the layout has, and groups that end with the count of them
 abbrev pub Exactly : Message → List ℤ → List ℕ → List ℕ → Type 0
-Exactly m zs ts gs = (length ts ≡ textSize (fields m)) × (length gs ≡ place (group m) gs 0 (stated m zs))
+Exactly m zs ts gs = (length ts ≡ textSize (fields m)) × (length gs ≡ groupOffset (group m) gs 0 (stated m zs))
 
 -- W5, R5: one of the numbers of a layout's fixed fields is out of range
 pub data NumberOut : List Kind → List ℤ → Type 0 where
@@ -177,8 +177,8 @@ Low (heartbeat m end) = m <ℤ pos 0
 
 -- R9: the runs that channel k would have behind the event are too many
 abbrev pub Overfills : Tracker → ℕ → Event → Type 0
-Overfills t k e = runLimit < length (taken (recordOf t k) e .next .runs)
+Overfills t k e = runLimit < length (taken (channelOf t k) e .next .runs)
 
 -- R6: there is a run to ask for, and the output is shorter than its frame
 abbrev pub RequestShort : Tracker → ℕ → ℕ → Type 0
-RequestShort t k room = (recordOf t k .runs ≡ [] → ⊥) × (room < 12 + 44)
+RequestShort t k room = (channelOf t k .runs ≡ [] → ⊥) × (room < 12 + 44)

@@ -1,28 +1,36 @@
--- Demand 2: reading and writing. That a call follows the rules is its promise, `paper r ≡ definition`. Here, of every answer that the
--- contracts allow (specs/Calls): what is accepted and what is written, and that nothing is lost on the way in either direction.
+-- Demand 2's statements, of every answer that the contracts allow (specs/Calls): what is accepted, what is written, and that nothing is
+-- lost on the way in either direction. That a call reads each field as the layouts say is its promise, over the definition that it cites.
 -- Assumes nothing.
-use Prim.Native.Nat.{ℕ, _+_, _≤_}
+use Prim.Native.Nat.{ℕ, zero, suc, _+_, _*_, _≤_, _<_}
 use mathlib.Core.Path.{_≡_}
 use mathlib.Core.Logic.{_↔_}
 use mathlib.Core.List.{List, [], _∷_, _++_}
 use lib.IntN.{ℤ}
 use lib.ListN.{length, take, drop}
-use Rattle.wire.specs.Answer.{Answer, accepted, refused}
-use Rattle.wire.specs.Bytes.{Bytes}
-use Rattle.frame.specs.Framing.{framing, bodyOf, headerWidth, bodyLimit}
+use Rattle.wire.specs.Answer.{Answer, accepted, refused, RefusedBy}
+use Rattle.wire.specs.Bytes.{Bytes, part}
+use Rattle.wire.specs.Refusal.{notItsLayout}
+use Rattle.frame.specs.Framing as framed-as
+use Rattle.frame.specs.declared.Framed.{Framed}
+use Rattle.frame.specs.declared.Framed.the-variants.{Whole}
 use Rattle.frame.specs.declared.Frame.{Frame}
-use Rattle.layout.specs.Layout.{Message, fields, typeNumber, listed, named}
-use Rattle.layout.specs.Group.{needs}
-use Rattle.record.specs.Asked.{told}
-use Rattle.record.specs.Record.{Reading, known, unknown, frameReading, groupsPart}
-use Rattle.record.specs.Paper.{paperRecord, paperFrame}
+use Rattle.layout.specs.Layout.{Message, heartbeat, channelHeartbeat, resend, statistics, securityStatus, snapshot, index, volumeIndex, order, trade, fields, typeNumber, snapshotEntries, listed, unlisted, named}
+use Rattle.layout.specs.Paper as layout-paper
+use Rattle.layout.specs.Group.{shown, groupOffset, count, needs}
+use Rattle.record.specs.Asked.{withTexts}
+use Rattle.record.specs.Record.{Reading, known, unknown}
+use Rattle.record.specs.Paper as record-paper
+use Rattle.record.specs.Paper.{meansRecord, meansFrameReading}
+use Rattle.record.specs.declared.Reading as code-reading
 use Rattle.record.specs.declared.Record.{Record}
 use Rattle.record.specs.declared.framed.FrameReading.{FrameReading}
+use Rattle.entries.specs.Paper.{meansAskedEntry, meansQuantity, meansStep}
+use Rattle.entries.specs.declared.cursor.Cursor.{Cursor}
 use Rattle.bodies.specs.Body.{Numbers, body, bodyLength}
 use Rattle.writer.specs.Write.{frameOf}
-use Rattle.writer.specs.Paper.{paper}
+use Rattle.writer.specs.Paper.{meansWritten}
 use Rattle.writer.specs.declared.Written.{Written}
-use Rattle.demands.specs.Calls.{ReadFrame, Write}
+use Rattle.demands.specs.Calls.{FrameRead, ReadFrame, FrameBody, Read, Judge, GroupOf, GroupsOf, EntryOf, QuantityOf, CursorStep, Write}
 use Rattle.demands.specs.Rules.{Rule}
 use Rattle.demands.specs.Demand1.{readerRules, writerRules}
 
@@ -39,27 +47,82 @@ NoneOf (r ∷ rs) = (r .when → ⊥) × NoneOf rs
 
 -- D21: the reader accepts exactly the frames that none of 1 to 5 describes
 abbrev pub Reader : Type 0
-Reader = (s : List ℕ) (x : FrameReading) → ReadFrame s x → Accepted (paperFrame x .answer) ↔ NoneOf (readerRules s)
+Reader = (s : List ℕ) (x : FrameReading) → ReadFrame s x → Accepted (meansFrameReading x .answer) ↔ NoneOf (readerRules s)
 
--- ---- the writer
+-- ---- a type that is not listed
+
+-- L6, F6: it is answered as unknown, with its number, and its body is lent as that of any other frame
+pub record AsUnknown (s : List ℕ) (f : Frame) (x : FrameReading) (b : List ℕ) : Type 0 where
+  pub type : meansFrameReading x .answer ≡ accepted (unknown (f .kind))
+  pub body : b ≡ part 8 (8 + f .len) s
+
+-- L6: so by the reader, and by the call for the body
+abbrev pub Unlisted : Type 0
+Unlisted =
+    (s b : List ℕ) (f : Frame) (x : FrameReading) → FrameRead s (Whole f) → named (f .kind) ≡ unlisted → ReadFrame s x →
+    FrameBody s b → AsUnknown s f x b
+
+-- ---- the bytes that each type's body takes
+
+-- L5: the shown counts of the first k entries of a snapshot, added up
+abbrev pub shownSum : List ℕ → ℕ → ℕ
+shownSum b zero = 0
+shownSum b (suc k) = shownSum b k + shown snapshotEntries b (groupOffset snapshotEntries b 69 k)
+
+-- L3: the column of bytes
+abbrev pub bytesOf : Message → List ℕ → ℕ
+bytesOf heartbeat b = 0
+bytesOf channelHeartbeat b = 12
+bytesOf resend b = 44
+bytesOf statistics b = 14 + 15 * count statistics b
+bytesOf securityStatus b = 34 + 4 * count securityStatus b
+bytesOf snapshot b = 69 + 32 * count snapshot b + 8 * shownSum b (count snapshot b)
+bytesOf index b = 69 + 10 * count index b
+bytesOf volumeIndex b = 69
+bytesOf order b = 51
+bytesOf trade b = 66
+
+-- R4, L3: a body is refused by 4 exactly where it has fewer
+abbrev pub Column : Type 0
+Column =
+    (m : Message) (b : List ℕ) (r : code-reading.Reading) → Read (typeNumber m) b r →
+    RefusedBy notItsLayout (record-paper.meansReading r .answer) ↔ (length b < bytesOf m b)
+
+-- ---- the tail: bytes behind a frame, and behind an accepted body, change nothing that is read
+
+-- L7: what a call can answer of longer bytes is what it answered where it accepted
+abbrev pub Unmoved : {R A B : Type 0} → (R → A) → (A → Answer B) → (R → Type 0) → (R → Type 0) → Type 0
+Unmoved {R} meansWritten answer Can Longer = (r u : R) → Can r → Longer u → Accepted (answer (meansWritten r)) → meansWritten u ≡ meansWritten r
+
+-- F5, L7: bytes t behind
+pub record Tail (b t : List ℕ) : Type 0 where
+  pub read-frame : Unmoved meansFrameReading (λ a. a .answer) (ReadFrame b) (ReadFrame (b ++ t))
+  pub read : (type : ℕ) → Unmoved record-paper.meansReading (λ a. a .answer) (Read type b) (Read type (b ++ t))
+  pub judge : (type : ℕ) → Unmoved layout-paper.meansVerdict (λ a. a) (Judge type b) (Judge type (b ++ t))
+  pub group-of : (type i : ℕ) → Unmoved record-paper.meansGroupReading (λ a. a .answer) (GroupOf type b i) (GroupOf type (b ++ t) i)
+  pub entry-of : (type i : ℕ) → Unmoved meansAskedEntry (λ a. a) (EntryOf type b i) (EntryOf type (b ++ t) i)
+  pub quantity-of : (type i j : ℕ) → Unmoved meansQuantity (λ a. a) (QuantityOf type b i j) (QuantityOf type (b ++ t) i j)
+  pub step : (c : Cursor) (type : ℕ) → Unmoved meansStep (λ a. a) (CursorStep c type b) (CursorStep c type (b ++ t))
+
+-- ---- the writer, likewise
 
 -- D21: the writer writes exactly where none of 5, 4, 5, 2, 6 holds
 abbrev pub Writer : Type 0
 Writer =
     (r : Record) (ts gs out after : List ℕ) (a : Written) → Write r ts gs out a after →
-    Accepted (paper a) ↔ NoneOf (writerRules (paperRecord r) ts gs (length out))
+    Accepted (meansWritten a) ↔ NoneOf (writerRules (meansRecord r) ts gs (length out))
 
 -- W2, D21: written: header, body by layout, checksum, and the old bytes behind them; refused: every byte as it stood
-pub data Holds (out : List ℕ) : Answer ℕ → Reading → List ℕ → List ℕ → List ℕ → Type 0 where
+pub data Leaves (out : List ℕ) : Answer ℕ → Reading → List ℕ → List ℕ → List ℕ → Type 0 where
   frame-first :
       {m : Message} {zs : List ℤ} {ts gs : List ℕ} {n : ℕ} → n ≡ 12 + bodyLength m gs →
-      Holds out (accepted n) (known m zs) ts gs (frameOf (typeNumber m) (body m zs ts gs) ++ drop n out)
-  as-it-stood : {n : ℕ} {vs : List ℕ} {x : Reading} {ts gs : List ℕ} → Holds out (refused n vs) x ts gs out
+      Leaves out (accepted n) (known m zs) ts gs (frameOf (typeNumber m) (body m zs ts gs) ++ drop n out)
+  as-it-stood : {n : ℕ} {vs : List ℕ} {x : Reading} {ts gs : List ℕ} → Leaves out (refused n vs) x ts gs out
 
 -- D21: so after every write
 abbrev pub Output : Type 0
 Output =
-    (r : Record) (ts gs out after : List ℕ) (a : Written) → Write r ts gs out a after → Holds out (paper a) (paperRecord r) ts gs after
+    (r : Record) (ts gs out after : List ℕ) (a : Written) → Write r ts gs out a after → Leaves out (meansWritten a) (meansRecord r) ts gs after
 
 -- ---- what is written reads back
 
@@ -68,21 +131,21 @@ abbrev pub Held : Reading → Type 0
 Held (known m zs) = Numbers (fields m) zs
 Held (unknown type) = Unit
 
--- bytes read as a record with its texts; they begin with a frame of n bytes, and the groups of its body are those
+-- D22: by every answer of the reader, bytes begin with a frame of n bytes and read as a record with its texts and groups
 pub record Reads (x : Reading) (ts gs : List ℕ) (n : ℕ) (s : List ℕ) : Type 0 where
   pub frame : Frame
-  pub framed : framing headerWidth bodyLimit s ≡ accepted frame
+  pub framed : (a : Framed) → FrameRead s a → framed-as.meansFramed a ≡ accepted frame
   pub total : frame .total ≡ n
-  pub fields : frameReading s ≡ told (accepted x) ts
-  pub groups : groupsPart (frame .kind) (bodyOf headerWidth (accepted frame) s) ≡ gs
+  pub fields : (y : FrameReading) → ReadFrame s y → meansFrameReading y ≡ withTexts (accepted x) ts
+  pub groups : (b g : List ℕ) → FrameBody s b → GroupsOf (frame .kind) b g → g ≡ gs
 
 -- D22: whatever stood in the output before, and so behind the frame
 abbrev pub ReadsBack : Type 0
 ReadsBack =
-    (r : Record) (ts gs out after : List ℕ) (a : Written) (n : ℕ) → Held (paperRecord r) → Write r ts gs out a after →
-    paper a ≡ accepted n → Reads (paperRecord r) ts gs n after
+    (r : Record) (ts gs out after : List ℕ) (a : Written) (n : ℕ) → Held (meansRecord r) → Write r ts gs out a after →
+    meansWritten a ≡ accepted n → Reads (meansRecord r) ts gs n after
 
--- ---- what is read is written again as the same bytes
+-- ---- what is read is written again with the same bytes
 
 -- L7: a body that ends with its layout
 abbrev pub NoTail : Message → List ℕ → Type 0
@@ -91,8 +154,7 @@ NoTail m b = needs m b ≡ length b
 -- D23: a frame of a listed type without a tail, read and written again, is the same bytes
 abbrev pub SameBytes : Type 0
 SameBytes =
-    (s out after : List ℕ) (f : Frame) (m : Message) (x : FrameReading) (r : Record) (a : Written) → Bytes s →
-    framing headerWidth bodyLimit s ≡ accepted f → named (f .kind) ≡ listed m → NoTail m (bodyOf headerWidth (accepted f) s) →
-    ReadFrame s x → paperFrame x .answer ≡ accepted (paperRecord r) → f .total ≤ length out →
-    Write r (take (paperFrame x .used) (paperFrame x .texts)) (groupsPart (f .kind) (bodyOf headerWidth (accepted f) s)) out a after →
-    (paper a ≡ accepted (f .total)) × (after ≡ take (f .total) s ++ drop (f .total) out)
+    (s b g out after : List ℕ) (f : Frame) (m : Message) (x : FrameReading) (r : Record) (a : Written) → Bytes s → FrameRead s (Whole f) →
+    FrameBody s b → named (f .kind) ≡ listed m → NoTail m b → ReadFrame s x → meansFrameReading x .answer ≡ accepted (meansRecord r) →
+    GroupsOf (f .kind) b g → f .total ≤ length out → Write r (take (meansFrameReading x .used) (meansFrameReading x .texts)) g out a after →
+    (meansWritten a ≡ accepted (f .total)) × (after ≡ take (f .total) s ++ drop (f .total) out)

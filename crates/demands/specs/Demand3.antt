@@ -1,4 +1,4 @@
--- Demand 3. Each type is a statement; proofs/Demand3.antt has a proof of each.
+-- Demand 3's statements, of every playing that the contracts allow (specs/Play).
 use Prim.Native.Nat.{ℕ, _≤_, _<_}
 use mathlib.Core.Path.{_≡_}
 use mathlib.Core.Logic.{_↔_}
@@ -14,65 +14,65 @@ use Rattle.tracker.specs.declared.Tracker.{Tracker}
 use Rattle.tracker.specs.declared.Reply.{Reply}
 use Rattle.seats.specs.Places.{firstNumber}
 use Rattle.tracker.specs.SetUp.{setUp}
-use Rattle.tracker.specs.Arrived.{Arrival, on, saidOf}
+use Rattle.tracker.specs.Arrived.{Arrival, on, arrivalSaid}
 use Rattle.demands.specs.Calls.{Arrives}
-use Rattle.demands.specs.Play.{Fresh, Told, Play, arrivals, only, answersTo, historyOf, NeverFull, Holds, recordOf, AllCallable, Playable}
+use Rattle.demands.specs.Play.{Fresh, Turn, Play, arrivals, only, answersTo, historyOf, NeverFull, Has, channelOf, AllCallable, Playable}
 
 -- T1: the channels that a fresh gap record holds are those of its list
 abbrev pub HoldsItsList : Type 0
-HoldsItsList = (numbers : List ℕ) (t : Tracker) → Fresh numbers t → (k : ℕ) → Holds t k ↔ List·Memᴰ k numbers
+HoldsItsList = (numbers : List ℕ) (t : Tracker) → Fresh numbers t → (k : ℕ) → Has t k ↔ List·Memᴰ k numbers
 
 -- D31: two orders of the same arrivals, in neither of which any is answered 9, end in the same record
 abbrev pub TwoOrders : Type 0
 TwoOrders =
-    (numbers : List ℕ) (t u v : Tracker) (l m : List Told) → Fresh numbers t → Play t l u → Play t m v →
+    (numbers : List ℕ) (t u v : Tracker) (l m : List Turn) → Fresh numbers t → Play t l u → Play t m v →
     List·Permᴰ (arrivals l) (arrivals m) → NeverFull l → NeverFull m → u ≡ v
 
 -- D32: a channel's runs hold exactly the numbers that its history misses
 abbrev pub GapsFromHistory : Type 0
 GapsFromHistory =
-    (numbers : List ℕ) (t u : Tracker) (l : List Told) → Fresh numbers t → Play t l u → (k : ℕ) → Holds t k →
-    (n : ℕ) → (has (recordOf u k .runs) n ≡ true) ↔ Missing firstNumber (historyOf k l) n
+    (numbers : List ℕ) (t u : Tracker) (l : List Turn) → Fresh numbers t → Play t l u → (k : ℕ) → Has t k →
+    (n : ℕ) → (has (channelOf u k .runs) n ≡ true) ↔ Missing firstNumber (historyOf k l) n
 
 -- D33: the highest and the ended mark are the history's too
 abbrev pub MarksFromHistory : Type 0
 MarksFromHistory =
-    (numbers : List ℕ) (t u : Tracker) (l : List Told) → Fresh numbers t → Play t l u → (k : ℕ) → Holds t k →
-    (recordOf u k .highest ≡ top firstNumber (historyOf k l)) × (recordOf u k .ended ≡ ends (historyOf k l))
+    (numbers : List ℕ) (t u : Tracker) (l : List Turn) → Fresh numbers t → Play t l u → (k : ℕ) → Has t k →
+    (channelOf u k .highest ≡ top firstNumber (historyOf k l)) × (channelOf u k .ended ≡ ends (historyOf k l))
 
 -- the next arrival e on channel k would need a 33rd run
-abbrev pub WouldFill : ℕ → List Told → Event → Type 0
+abbrev pub WouldFill : ℕ → List Turn → Event → Type 0
 WouldFill k l e = Overfull firstNumber (historyOf k l ++ (e ∷ []))
 
 -- D33: 9 exactly when the gaps of the history with this arrival would form more than 32 runs
 abbrev pub NineFromHistory : Type 0
 NineFromHistory =
-    (numbers : List ℕ) (t u : Tracker) (l : List Told) → Fresh numbers t → Play t l u → (k : ℕ) → Holds t k →
+    (numbers : List ℕ) (t u : Tracker) (l : List Turn) → Fresh numbers t → Play t l u → (k : ℕ) → Has t k →
     (e : Event) (r : Reply) → tooLow e ≡ false → Arrives u (on k e) r →
-    (saidOf (r .verdict) ≡ refused tableFull []) ↔ WouldFill k l e
+    (arrivalSaid (r .verdict) ≡ refused tableFull []) ↔ WouldFill k l e
 
 -- D33: else new exactly when above the history's highest, late exactly when not above it and not brought, duplicate exactly when brought
 abbrev pub TickFromHistory : Type 0
 TickFromHistory =
-    (numbers : List ℕ) (t u : Tracker) (l : List Told) → Fresh numbers t → Play t l u → (k : ℕ) → Holds t k →
+    (numbers : List ℕ) (t u : Tracker) (l : List Turn) → Fresh numbers t → Play t l u → (k : ℕ) → Has t k →
     (n : ℕ) (r : Reply) → 1 ≤ n → Arrives u (on k (tick (pos n))) r →
-    ((saidOf (r .verdict) ≡ accepted new) ↔ ((top firstNumber (historyOf k l) < n) × (WouldFill k l (tick (pos n)) → ⊥)))
-    × ((saidOf (r .verdict) ≡ accepted late)
+    ((arrivalSaid (r .verdict) ≡ accepted new) ↔ ((top firstNumber (historyOf k l) < n) × (WouldFill k l (tick (pos n)) → ⊥)))
+    × ((arrivalSaid (r .verdict) ≡ accepted late)
     ↔ ((n ≤ top firstNumber (historyOf k l)) × (Brought (historyOf k l) n → ⊥) × (WouldFill k l (tick (pos n)) → ⊥)))
-    × ((saidOf (r .verdict) ≡ accepted duplicate) ↔ Brought (historyOf k l) n)
+    × ((arrivalSaid (r .verdict) ≡ accepted duplicate) ↔ Brought (historyOf k l) n)
 
 -- D33: and a heartbeat's answer is heard exactly when it is not 9
 abbrev pub HeartbeatFromHistory : Type 0
 HeartbeatFromHistory =
-    (numbers : List ℕ) (t u : Tracker) (l : List Told) → Fresh numbers t → Play t l u → (k : ℕ) → Holds t k →
+    (numbers : List ℕ) (t u : Tracker) (l : List Turn) → Fresh numbers t → Play t l u → (k : ℕ) → Has t k →
     (m : ℕ) (end : Bool) (r : Reply) → Arrives u (on k (heartbeat (pos m) end)) r →
-    (saidOf (r .verdict) ≡ accepted heard) ↔ (WouldFill k l (heartbeat (pos m) end) → ⊥)
+    (arrivalSaid (r .verdict) ≡ accepted heard) ↔ (WouldFill k l (heartbeat (pos m) end) → ⊥)
 
 -- D34: without the other channels' arrivals a channel's record and its answers are the same, 9 among them
 abbrev pub OthersRemoved : Type 0
 OthersRemoved =
-    (numbers : List ℕ) (t u v : Tracker) (l m : List Told) → Fresh numbers t → Play t l u → Play t m v → (k : ℕ) → Holds t k →
-    arrivals m ≡ only k (arrivals l) → (recordOf v k ≡ recordOf u k) × (answersTo k m ≡ answersTo k l)
+    (numbers : List ℕ) (t u v : Tracker) (l m : List Turn) → Fresh numbers t → Play t l u → Play t m v → (k : ℕ) → Has t k →
+    arrivals m ≡ only k (arrivals l) → (channelOf v k ≡ channelOf u k) × (answersTo k m ≡ answersTo k l)
 
 -- Every set-up that is not refused gives a fresh record, and every list of arrivals that calls can take has a playing:
 -- each statement above speaks of every such list.

@@ -8,6 +8,7 @@ pub mod Demand2
 pub mod Demand3
 pub mod Requests
 pub mod Checked
-pub mod Known
 pub mod Receiver
 pub mod CalledFromC
+pub mod CheckedFromC
+pub mod Interface

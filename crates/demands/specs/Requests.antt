@@ -7,26 +7,29 @@ use mathlib.Core.List.{List, [], _∷_}
 use lib.IntN.{pos}
 use lib.ListN.{replicate}
 use Rattle.wire.specs.Answer.{accepted}
-use Rattle.frame.specs.Framing.{framing, headerWidth, bodyLimit}
+use Rattle.frame.specs.Framing as framed-as
+use Rattle.frame.specs.declared.Framed.{Framed}
 use Rattle.layout.specs.Layout.{resend}
-use Rattle.record.specs.Asked.{told}
-use Rattle.record.specs.Record.{known, frameReading}
+use Rattle.record.specs.Asked.{withTexts}
+use Rattle.record.specs.Record.{known}
+use Rattle.record.specs.Paper.{meansFrameReading}
+use Rattle.record.specs.declared.framed.FrameReading.{FrameReading}
 use Rattle.gaps.specs.declared.Run.{Run}
 use Rattle.gaps.specs.History.{Missing}
 use Rattle.tracker.specs.declared.Tracker.{Tracker}
 use Rattle.tracker.specs.FirstRun.{lost, firstRun}
 use Rattle.seats.specs.Places.{firstNumber}
-use Rattle.tracker.specs.Request.{batch, asked, space, written, nothing, paper}
+use Rattle.tracker.specs.Request.{batch, asked, space, written, nothing, meansRequested}
 use Rattle.tracker.specs.declared.Requested.{Requested}
-use Rattle.demands.specs.Calls.{Request}
-use Rattle.demands.specs.Play.{Fresh, Told, Play, historyOf, Holds}
+use Rattle.demands.specs.Calls.{FrameRead, ReadFrame, Request}
+use Rattle.demands.specs.Play.{Fresh, Turn, Play, historyOf, Has}
 
 -- Q2: bytes that begin with a frame of 390094, L 44, 56 bytes, which reads as resend type 1, channel k, the numbers of r, status 0 and spaces
 pub record Asks (k : ℕ) (r : Run) (s : List ℕ) : Type 0 where
-  pub frame : framing headerWidth bodyLimit s ≡ accepted (record { kind = 390094; len = 44; total = 56 })
+  pub frame : (a : Framed) → FrameRead s a → framed-as.meansFramed a ≡ accepted (record { kind = 390094; len = 44; total = 56 })
   pub fields :
-      frameReading s ≡
-      told (accepted (known resend (pos 1 ∷ pos k ∷ pos (r .first) ∷ pos (r .last) ∷ pos 0 ∷ []))) (replicate 24 space)
+      (y : FrameReading) → ReadFrame s y → meansFrameReading y ≡
+      withTexts (accepted (known resend (pos 1 ∷ pos k ∷ pos (r .first) ∷ pos (r .last) ∷ pos 0 ∷ []))) (replicate 24 space)
 
 -- Q1: the channel has a first run, n bytes are written, and they ask for that run, or its first 200 numbers
 pub record Requests (t : Tracker) (k n : ℕ) (s : List ℕ) : Type 0 where
@@ -39,33 +42,33 @@ pub record Requests (t : Tracker) (k n : ℕ) (s : List ℕ) : Type 0 where
 abbrev pub RequestReads : Type 0
 RequestReads =
     (t : Tracker) (k : ℕ) (out after : List ℕ) (a : Requested) (n : ℕ) → k < 256 ^ 2 → Request t k out a after →
-    paper a ≡ accepted (written n) → Requests t k n after
+    meansRequested a ≡ accepted (written n) → Requests t k n after
 
 -- ---- by the history
 
 -- n is missing on channel k: from 1 to the highest that accepted arrivals brought or announced, and not brought
-abbrev pub Lacks : ℕ → List Told → ℕ → Type 0
-Lacks k l n = Missing firstNumber (historyOf k l) n
+abbrev pub Misses : ℕ → List Turn → ℕ → Type 0
+Misses k l n = Missing firstNumber (historyOf k l) n
 
 -- bytes that ask for the lowest missing numbers of channel k: each number from the first to the last is missing, no lower one is,
 -- and neither is the next one, but where the batch is full
-pub record AsksForMissing (k : ℕ) (l : List Told) (s : List ℕ) : Type 0 where
+pub record AsksForMissing (k : ℕ) (l : List Turn) (s : List ℕ) : Type 0 where
   pub run : Run
   pub asks : Asks k run s
   pub some : run .first ≤ run .last
-  pub missing : (n : ℕ) → run .first ≤ n → n ≤ run .last → Lacks k l n
-  pub least : (n : ℕ) → Lacks k l n → run .first ≤ n
+  pub missing : (n : ℕ) → run .first ≤ n → n ≤ run .last → Misses k l n
+  pub least : (n : ℕ) → Misses k l n → run .first ≤ n
   pub few : run .last < run .first + batch
-  pub whole : Lacks k l (run .last + 1) → run .last + 1 ≡ run .first + batch
+  pub whole : Misses k l (run .last + 1) → run .last + 1 ≡ run .first + batch
 
 -- D41: whatever was played into a fresh record, a request that is answered written asks for missing numbers
 abbrev pub RequestAsksForMissing : Type 0
 RequestAsksForMissing =
-    (numbers : List ℕ) (t u : Tracker) (l : List Told) → Fresh numbers t → Play t l u → (k : ℕ) → Holds t k → k < 256 ^ 2 →
-    (out after : List ℕ) (a : Requested) (n : ℕ) → Request u k out a after → paper a ≡ accepted (written n) → AsksForMissing k l after
+    (numbers : List ℕ) (t u : Tracker) (l : List Turn) → Fresh numbers t → Play t l u → (k : ℕ) → Has t k → k < 256 ^ 2 →
+    (out after : List ℕ) (a : Requested) (n : ℕ) → Request u k out a after → meansRequested a ≡ accepted (written n) → AsksForMissing k l after
 
 -- D41: and one that is answered "nothing missing" has none to ask for
 abbrev pub NothingIsMissing : Type 0
 NothingIsMissing =
-    (numbers : List ℕ) (t u : Tracker) (l : List Told) → Fresh numbers t → Play t l u → (k : ℕ) → Holds t k →
-    (out after : List ℕ) (a : Requested) → Request u k out a after → paper a ≡ accepted nothing → (n : ℕ) → Lacks k l n → ⊥
+    (numbers : List ℕ) (t u : Tracker) (l : List Turn) → Fresh numbers t → Play t l u → (k : ℕ) → Has t k →
+    (out after : List ℕ) (a : Requested) → Request u k out a after → meansRequested a ≡ accepted nothing → (n : ℕ) → Misses k l n → ⊥

@@ -15,11 +15,11 @@ use Rattle.wire.specs.Bytes.{beAt, part}
 use Rattle.wire.proofs.Be.{beAt-part, beAt-here}
 use Rattle.layout.specs.Kind.{Kind, Form, unsigned, signed, written, form, bytes, width}
 use Rattle.layout.specs.Layout.{Message, heartbeat, channelHeartbeat, resend, statistics, securityStatus, snapshot, index, volumeIndex, order, trade, fields, Listed, listed, unlisted, named, Group, streams, switches, nothing, groups, entries, behind, Entries, entryGroup, snapshotEntries, indexEntries, size, ranges, values, valueAt}
-use Rattle.layout.specs.Group.{shown, next, place, placeFrom, fit, groupRanges, judgedFrom, group, start, count, whole, inRange, judged}
+use Rattle.layout.specs.Group.{shown, nextOffset, groupOffset, offsetFrom, fit, groupRanges, judgeGroups, group, groupsStart, count, whole, inRange, judgeBody}
 use Rattle.layout.proofs.Walk.{Ahead, ahead, and-both, fit-fewer, fit-there, Good, good}
 use Rattle.record.proofs.Choice.{named-as, named-back}
-use Rattle.record.specs.Asked.{found, noSuchEntry, judging}
-use Rattle.entries.specs.Entry.{At, entryAt, atNone, startOf, stepIn, stepOf, entryOf, entryAsked, quantityAt, quantityOf, quantityAsked}
+use Rattle.record.specs.Asked.{found, noSuchEntry, judge}
+use Rattle.entries.specs.Entry.{At, entryAt, atNone, start, stepIn, step, entryListed, entryOf, quantityAt, quantityListed, quantityOf}
 
 -- ---- the types with entries, and those without
 
@@ -46,24 +46,24 @@ pub no-entries : (type : ℕ) → (type ≡ 300111 → ⊥) → (type ≡ 309011
 no-entries type s i = no-entries-by type (named type) refl s i
 
 module _ (s : List ℕ) where
-  pub no-start : {l : Listed} → NoEntries l → startOf l s ≡ atNone
-  unfolding startOf
+  pub no-start : {l : Listed} → NoEntries l → start l s ≡ atNone
+  unfolding start
   no-start (bare e) = rw e
   no-start (grouped g e) = rw e
   no-start unknown = refl
 
-  pub no-step : {l : Listed} (c : At) → NoEntries l → stepOf l s c ≡ accepted noSuchEntry
-  unfolding stepOf
+  pub no-step : {l : Listed} (c : At) → NoEntries l → step l s c ≡ accepted noSuchEntry
+  unfolding step
   no-step c (bare e) = rw e
   no-step c (grouped g e) = rw e
   no-step c unknown = refl
 
-  pub no-entry : {l : Listed} (i : ℕ) → NoEntries l → entryOf l s i ≡ noSuchEntry
+  pub no-entry : {l : Listed} (i : ℕ) → NoEntries l → entryListed l s i ≡ noSuchEntry
   no-entry i (bare e) = rw e
   no-entry i (grouped g e) = rw e
   no-entry i unknown = refl
 
-  pub no-quantity : {l : Listed} (i j : ℕ) → NoEntries l → quantityOf l s i j ≡ noSuchEntry
+  pub no-quantity : {l : Listed} (i j : ℕ) → NoEntries l → quantityListed l s i j ≡ noSuchEntry
   no-quantity i j (bare e) = rw e
   no-quantity i j (grouped g e) = rw e
   no-quantity i j unknown = refl
@@ -97,7 +97,7 @@ pub record SnapshotEntry (s : List ℕ) (p : ℕ) : Type 0 where
   pub fields : p + 32 ≤ length s
   pub whole : p + 32 + 8 * beAt s (p + 28) 4 ≤ length s
   pub shows : shown snapshotEntries s p ≡ beAt s (p + 28) 4
-  pub onward : next snapshotEntries s p ≡ p + 32 + 8 * beAt s (p + 28) 4
+  pub onward : nextOffset snapshotEntries s p ≡ p + 32 + 8 * beAt s (p + 28) 4
 
 shown-at : (s : List ℕ) (p : ℕ) → shown snapshotEntries s p ≡ beAt s (p + 28) 4
 unfolding shown size
@@ -108,13 +108,13 @@ unfolding size
 snapshot-entry s p e =
     let a : Ahead snapshotEntries s p 1 = ahead snapshotEntries s p 1 (lit< tt) e in
     let m = shown-at s p in
-    let n : next snapshotEntries s p ≡ p + 32 + 8 * beAt s (p + 28) 4 = rw m in
+    let n : nextOffset snapshotEntries s p ≡ p + 32 + 8 * beAt s (p + 28) 4 = rw m in
     record { fields = a .fixed; whole = rw n at (a .whole); shows = m; onward = n }
 
 pub record IndexEntry (s : List ℕ) (p : ℕ) : Type 0 where
   pub fields : p + 10 ≤ length s
   pub shows : shown indexEntries s p ≡ 0
-  pub onward : next indexEntries s p ≡ p + 10
+  pub onward : nextOffset indexEntries s p ≡ p + 10
 
 pub index-entry : (s : List ℕ) (p : ℕ) → fit indexEntries s p 1 ≡ true → IndexEntry s p
 unfolding size shown
@@ -124,53 +124,53 @@ index-entry s p e =
 
 -- ---- the entries of a body that is accepted
 
-pub fits : (g : Group) (s : List ℕ) (p k : ℕ) → judgedFrom g s p k ≡ accepted tt → fit g s p k ≡ true
-unfolding judgedFrom
+pub fits : (g : Group) (s : List ℕ) (p k : ℕ) → judgeGroups g s p k ≡ accepted tt → fit g s p k ≡ true
+unfolding judgeGroups
 fits g s p k j = good (fit g s p k) (groupRanges g s p k) j .all
 
 -- the groups of a body that is accepted
-pub groups-accepted : (m : Message) (s : List ℕ) → judged m s ≡ accepted tt → judgedFrom (group m) s (start m) (count m s) ≡ accepted tt
-unfolding judged judgedFrom guard
+pub groups-accepted : (m : Message) (s : List ℕ) → judgeBody m s ≡ accepted tt → judgeGroups (group m) s (groupsStart m) (count m s) ≡ accepted tt
+unfolding judgeBody judgeGroups guard
 groups-accepted m s j =
     let a : Good (whole m s) (inRange m s) = good (whole m s) (inRange m s) j in
-    rw (and-both (leb (start m) (length s)) (fit (group m) s (start m) (count m s)) (a .all) .1, and-both (ranges (fields m) s 0) (groupRanges (group m) s (start m) (count m s)) (a .each) .1)
+    rw (and-both (leb (groupsStart m) (length s)) (fit (group m) s (groupsStart m) (count m s)) (a .all) .1, and-both (ranges (fields m) s 0) (groupRanges (group m) s (groupsStart m) (count m s)) (a .each) .1)
 
-pub snapshot-fits : (type : ℕ) (s : List ℕ) → type ≡ 300111 → judging type s ≡ accepted tt → fit snapshotEntries s 69 (beAt s 65 4) ≡ true
+pub snapshot-fits : (type : ℕ) (s : List ℕ) → type ≡ 300111 → judge type s ≡ accepted tt → fit snapshotEntries s 69 (beAt s 65 4) ≡ true
 unfolding size
 snapshot-fits type s e j = fits snapshotEntries s 69 (beAt s 65 4) (groups-accepted snapshot s (rw (named-as snapshot e) at j))
 
-pub index-fits : (type : ℕ) (s : List ℕ) → type ≡ 309011 → judging type s ≡ accepted tt → fit indexEntries s 69 (beAt s 65 4) ≡ true
+pub index-fits : (type : ℕ) (s : List ℕ) → type ≡ 309011 → judge type s ≡ accepted tt → fit indexEntries s 69 (beAt s 65 4) ≡ true
 unfolding size
 index-fits type s e j = fits indexEntries s 69 (beAt s 65 4) (groups-accepted index s (rw (named-as index e) at j))
 
 -- where entry i stands, and that it is there
 pub record Placed (g : Group) (s : List ℕ) (at i p : ℕ) : Type 0 where
-  pub is : p ≡ place g s at i
+  pub is : p ≡ groupOffset g s at i
   pub there : fit g s p 1 ≡ true
 
-pub placed : (g : Group) (s : List ℕ) (at i k p : ℕ) → fit g s at k ≡ true → i < k → p ≡ placeFrom g s at i → Placed g s at i p
-unfolding placeFrom
+pub placed : (g : Group) (s : List ℕ) (at i k p : ℕ) → fit g s at k ≡ true → i < k → p ≡ offsetFrom g s at i → Placed g s at i p
+unfolding offsetFrom
 placed g s at i k p f h e =
-    let a : p ≡ place g s at i = e ∙ rw (fit-fewer g s at i k (omega arith) f) in
-    record { is = a; there = rw a (fit-fewer g s (place g s at i) 1 (k - i) (omega arith) (fit-there g s at i k h f)) }
+    let a : p ≡ groupOffset g s at i = e ∙ rw (fit-fewer g s at i k (omega arith) f) in
+    record { is = a; there = rw a (fit-fewer g s (groupOffset g s at i) 1 (k - i) (omega arith) (fit-there g s at i k h f)) }
 
 -- ---- asked for by position, after 4 and 5
 
 module _ (type : ℕ) (s : List ℕ) where
-  pub entry-refused : {n : ℕ} {vs : List ℕ} (i : ℕ) → judging type s ≡ refused n vs → entryAsked type s i ≡ refused n vs
-  unfolding entryAsked andThen
+  pub entry-refused : {n : ℕ} {vs : List ℕ} (i : ℕ) → judge type s ≡ refused n vs → entryOf type s i ≡ refused n vs
+  unfolding entryOf andThen
   entry-refused i j = rw j
 
-  pub entry-accepted : (i : ℕ) → judging type s ≡ accepted tt → entryAsked type s i ≡ accepted (entryOf (named type) s i)
-  unfolding entryAsked andThen
+  pub entry-accepted : (i : ℕ) → judge type s ≡ accepted tt → entryOf type s i ≡ accepted (entryListed (named type) s i)
+  unfolding entryOf andThen
   entry-accepted i j = rw j
 
-  pub quantity-refused : {n : ℕ} {vs : List ℕ} (i j : ℕ) → judging type s ≡ refused n vs → quantityAsked type s i j ≡ refused n vs
-  unfolding quantityAsked andThen
+  pub quantity-refused : {n : ℕ} {vs : List ℕ} (i j : ℕ) → judge type s ≡ refused n vs → quantityOf type s i j ≡ refused n vs
+  unfolding quantityOf andThen
   quantity-refused i j r = rw r
 
-  pub quantity-accepted : (i j : ℕ) → judging type s ≡ accepted tt → quantityAsked type s i j ≡ accepted (quantityOf (named type) s i j)
-  unfolding quantityAsked andThen
+  pub quantity-accepted : (i j : ℕ) → judge type s ≡ accepted tt → quantityOf type s i j ≡ accepted (quantityListed (named type) s i j)
+  unfolding quantityOf andThen
   quantity-accepted i j r = rw r
 
 -- ---- shown quantities
@@ -193,10 +193,10 @@ module _ (e : Entries) (s : List ℕ) (p k : ℕ) where
   unfolding guard
   step-none z = rw (eq-eqb _ _ z)
 
-  pub step-refused : {n : ℕ} {vs : List ℕ} → (k ≡ 0 → ⊥) → judgedFrom (entryGroup e) s p 1 ≡ refused n vs → stepIn (entries e) s (record { place = p; left = k }) ≡ refused n vs
+  pub step-refused : {n : ℕ} {vs : List ℕ} → (k ≡ 0 → ⊥) → judgeGroups (entryGroup e) s p 1 ≡ refused n vs → stepIn (entries e) s (record { place = p; left = k }) ≡ refused n vs
   unfolding guard andThen
   step-refused z j = rw (ne-eqb _ _ z, j)
 
-  pub step-found : (k ≡ 0 → ⊥) → judgedFrom (entryGroup e) s p 1 ≡ accepted tt → stepIn (entries e) s (record { place = p; left = k }) ≡ accepted (found (record { entry = entryAt e s p; onward = record { place = next (entryGroup e) s p; left = k - 1 } }))
+  pub step-found : (k ≡ 0 → ⊥) → judgeGroups (entryGroup e) s p 1 ≡ accepted tt → stepIn (entries e) s (record { place = p; left = k }) ≡ accepted (found (record { entry = entryAt e s p; onward = record { place = nextOffset (entryGroup e) s p; left = k - 1 } }))
   unfolding guard andThen
   step-found z j = rw (ne-eqb _ _ z, j)

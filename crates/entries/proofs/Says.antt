@@ -12,7 +12,7 @@ use mir.Val.{SFits, ofZ, toZ}
 use Rattle.wire.proofs.Signs.{kept}
 use Rattle.layout.specs.Kind.{among}
 use Rattle.layout.specs.Layout.{ofSnapshot, ofIndex}
-use Rattle.entries.specs.Entry.{xe, xf, xg, levels, prices, boths, indexPrices, level, levelWithoutPrice, price, size, both, unknown, noLimitMark, same, priceIn, sizeIn, levelIn, orderCountIn, shownIn, unless, saysIn}
+use Rattle.entries.specs.Entry.{xe, xf, xg, levels, prices, boths, indexPrices, level, levelWithoutPrice, price, size, both, unknown, noLimitMark, same, priceIn, sizeIn, levelIn, orderCountIn, shownCountIn, levelSaid, unless, saysIn}
 
 -- ---- signed numbers and their bits
 
@@ -37,11 +37,15 @@ other-bits (negsuc m) (negsuc n) h = ne-eqb m n (λ e. h (ap (λ (k : ℕ). ofZ 
 -- ---- in a snapshot
 
 module _ (t : ℕ) (vs : List ℤ) where
-  pub says-without : among levels t ≡ true → same (priceIn vs) (pos 0) ≡ true → saysIn ofSnapshot t vs ≡ levelWithoutPrice (sizeIn vs) (levelIn vs) (orderCountIn vs) (shownIn vs)
+  pub says-leveled : among levels t ≡ true → saysIn ofSnapshot t vs ≡ levelSaid vs
+  unfolding saysIn
+  says-leveled a = rw a
+
+  pub says-without : among levels t ≡ true → same (priceIn vs) (pos 0) ≡ true → saysIn ofSnapshot t vs ≡ levelWithoutPrice (sizeIn vs) (levelIn vs) (orderCountIn vs) (shownCountIn vs)
   unfolding saysIn
   says-without a b = rw (a, b)
 
-  pub says-level : among levels t ≡ true → same (priceIn vs) (pos 0) ≡ false → saysIn ofSnapshot t vs ≡ level (priceIn vs) (sizeIn vs) (levelIn vs) (orderCountIn vs) (shownIn vs)
+  pub says-level : among levels t ≡ true → same (priceIn vs) (pos 0) ≡ false → saysIn ofSnapshot t vs ≡ level (priceIn vs) (sizeIn vs) (levelIn vs) (orderCountIn vs) (shownCountIn vs)
   unfolding saysIn
   says-level a b = rw (a, b)
 

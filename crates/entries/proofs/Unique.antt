@@ -7,7 +7,7 @@ use Rattle.wire.specs.Answer.{Answer, accepted, refused}
 use Rattle.layout.proofs.Unique.{code-refusal, back-refusal}
 use Rattle.record.specs.Asked.{Asked, found, noSuchEntry}
 use Rattle.entries.specs.Entry.{Says, level, levelWithoutPrice, price, size, both, noLimit, unknown, Entry, At, Stepped}
-use Rattle.entries.specs.Paper.{paperSays, paperEntry, paperAskedEntry, paperQuantity, paperCursor, paperStep}
+use Rattle.entries.specs.Paper.{meansSays, meansEntry, meansAskedEntry, meansQuantity, meansCursor, meansStep}
 use Rattle.entries.specs.declared.entry.Says as code-says
 use Rattle.entries.specs.declared.entry.Entry as code-entry
 use Rattle.entries.specs.declared.entry.AskedEntry as asked-entry
@@ -53,7 +53,7 @@ codeStep (refused n vs) = code-step.the-variants.Refused (code-refusal n)
 
 -- ---- there and back
 
-says-back : (x : code-says.Says) → codeSays (paperSays x) ≡ x
+says-back : (x : code-says.Says) → codeSays (meansSays x) ≡ x
 says-back (code-says.the-variants.Level p z l o n) = refl
 says-back (code-says.the-variants.LevelWithoutPrice z l o n) = refl
 says-back (code-says.the-variants.Price p) = refl
@@ -62,23 +62,23 @@ says-back (code-says.the-variants.Both p z) = refl
 says-back code-says.the-variants.NoLimit = refl
 says-back code-says.the-variants.Unknown = refl
 
-entry-back : (e : code-entry.Entry) → codeEntry (paperEntry e) ≡ e
+entry-back : (e : code-entry.Entry) → codeEntry (meansEntry e) ≡ e
 entry-back e = λ i. record { characters = e .characters; says = says-back (e .says) i }
 
-asked-entry-back : (r : asked-entry.AskedEntry) → codeAskedEntry (paperAskedEntry r) ≡ r
+asked-entry-back : (r : asked-entry.AskedEntry) → codeAskedEntry (meansAskedEntry r) ≡ r
 asked-entry-back (asked-entry.the-variants.Found e) = ap asked-entry.the-variants.Found (entry-back e)
 asked-entry-back asked-entry.the-variants.NoSuchEntry = refl
 asked-entry-back (asked-entry.the-variants.Refused x) = ap asked-entry.the-variants.Refused (back-refusal x)
 
-quantity-back : (r : asked-quantity.AskedQuantity) → codeQuantity (paperQuantity r) ≡ r
+quantity-back : (r : asked-quantity.AskedQuantity) → codeQuantity (meansQuantity r) ≡ r
 quantity-back (asked-quantity.the-variants.Found z) = refl
 quantity-back asked-quantity.the-variants.NoSuchEntry = refl
 quantity-back (asked-quantity.the-variants.Refused x) = ap asked-quantity.the-variants.Refused (back-refusal x)
 
-cursor-back : (c : code-cursor.Cursor) → codeCursor (paperCursor c) ≡ c
+cursor-back : (c : code-cursor.Cursor) → codeCursor (meansCursor c) ≡ c
 cursor-back c = refl
 
-step-back : (r : code-step.Step) → codeStep (paperStep r) ≡ r
+step-back : (r : code-step.Step) → codeStep (meansStep r) ≡ r
 step-back (code-step.the-variants.Found e c) = λ i. code-step.the-variants.Found (entry-back e i) (cursor-back c i)
 step-back code-step.the-variants.NoSuchEntry = refl
 step-back (code-step.the-variants.Refused x) = ap code-step.the-variants.Refused (back-refusal x)
@@ -88,14 +88,14 @@ step-back (code-step.the-variants.Refused x) = ap code-step.the-variants.Refused
 one : {A B : Type 0} (there : A → B) (back : B → A) → ((x : A) → back (there x) ≡ x) → {x y : A} → there x ≡ there y → x ≡ y
 one there back h {x} {y} e = sym (h x) ∙ ap back e ∙ h y
 
-pub one-asked-entry : (a b : asked-entry.AskedEntry) → paperAskedEntry a ≡ paperAskedEntry b → a ≡ b
-one-asked-entry a b e = one paperAskedEntry codeAskedEntry asked-entry-back e
+pub one-asked-entry : (a b : asked-entry.AskedEntry) → meansAskedEntry a ≡ meansAskedEntry b → a ≡ b
+one-asked-entry a b e = one meansAskedEntry codeAskedEntry asked-entry-back e
 
-pub one-quantity : (a b : asked-quantity.AskedQuantity) → paperQuantity a ≡ paperQuantity b → a ≡ b
-one-quantity a b e = one paperQuantity codeQuantity quantity-back e
+pub one-quantity : (a b : asked-quantity.AskedQuantity) → meansQuantity a ≡ meansQuantity b → a ≡ b
+one-quantity a b e = one meansQuantity codeQuantity quantity-back e
 
-pub one-cursor : (a b : code-cursor.Cursor) → paperCursor a ≡ paperCursor b → a ≡ b
-one-cursor a b e = one paperCursor codeCursor cursor-back e
+pub one-cursor : (a b : code-cursor.Cursor) → meansCursor a ≡ meansCursor b → a ≡ b
+one-cursor a b e = one meansCursor codeCursor cursor-back e
 
-pub one-step : (a b : code-step.Step) → paperStep a ≡ paperStep b → a ≡ b
-one-step a b e = one paperStep codeStep step-back e
+pub one-step : (a b : code-step.Step) → meansStep a ≡ meansStep b → a ≡ b
+one-step a b e = one meansStep codeStep step-back e

@@ -10,10 +10,10 @@ use mir.Syntax.{w64}
 use mir.Val.{toZ}
 use Rattle.wire.specs.Answer.{Answer, accepted, refused, guard, andThen}
 use Rattle.wire.specs.Bytes.{beAt}
-use Rattle.layout.specs.Kind.{among, entryType, quantity, form, valueIn, width}
-use Rattle.layout.specs.Layout.{Message, Listed, listed, unlisted, named, Group, Entries, ofSnapshot, ofIndex, entryGroup, Behind, nothing, groups, entries, behind, values}
-use Rattle.layout.specs.Group.{shown, shownPlace, next, place, judgedFrom, start, counted}
-use Rattle.record.specs.Asked.{Asked, found, noSuchEntry, below, judging}
+use Rattle.layout.specs.Kind.{among, entryType, groupCount, quantity, form, valueIn, width}
+use Rattle.layout.specs.Layout.{commonSize, Message, Listed, listed, unlisted, named, Group, Entries, ofSnapshot, ofIndex, entryGroup, Behind, nothing, groups, entries, behind, values}
+use Rattle.layout.specs.Group.{shown, shownOffset, nextOffset, groupOffset, judgeGroups, groupsStart, countAt}
+use Rattle.record.specs.Asked.{Asked, found, noSuchEntry, below, judge}
 
 -- ---- the two type characters, the first the higher byte
 
@@ -73,6 +73,10 @@ boths = x-digit 3 ∷ x-digit 4 ∷ []
 abbrev pub indexPrices : List ℕ
 indexPrices = digit 3 ∷ xa ∷ xb ∷ xc ∷ xd ∷ []
 
+-- L4, L5: the entries start behind the common part and the count
+abbrev pub entriesStart : ℕ
+entriesStart = commonSize + width groupCount
+
 -- ---- the seven things
 
 -- E1: a level (price, size, level number, order count, shown count), the same without a price, a price, a size, price and size, no limit, unknown
@@ -109,14 +113,14 @@ levelIn vs = getD vs 3 (pos 0)
 abbrev pub orderCountIn : List ℤ → ℤ
 orderCountIn vs = getD vs 4 (pos 0)
 
-abbrev pub shownIn : List ℤ → ℤ
-shownIn vs = getD vs 5 (pos 0)
+abbrev pub shownCountIn : List ℤ → ℤ
+shownCountIn vs = getD vs 5 (pos 0)
 
 -- E2, E3: a level, which has no price where it is 0
 abbrev pub levelSaid : List ℤ → Says
 levelSaid vs =
-    cond (same (priceIn vs) (pos 0)) (levelWithoutPrice (sizeIn vs) (levelIn vs) (orderCountIn vs) (shownIn vs))
-    (level (priceIn vs) (sizeIn vs) (levelIn vs) (orderCountIn vs) (shownIn vs))
+    cond (same (priceIn vs) (pos 0)) (levelWithoutPrice (sizeIn vs) (levelIn vs) (orderCountIn vs) (shownCountIn vs))
+    (level (priceIn vs) (sizeIn vs) (levelIn vs) (orderCountIn vs) (shownCountIn vs))
 
 -- E4, E5: a price, but no limit where it is the mark
 abbrev pub unless : ℤ → List ℤ → Says
@@ -152,22 +156,22 @@ entryAt e s at =
 abbrev pub entryIn : Behind → ℕ → List ℕ → ℕ → Asked Entry
 entryIn nothing end s i = noSuchEntry
 entryIn (groups g) end s i = noSuchEntry
-entryIn (entries e) end s i = below i (counted (entries e) end s) (entryAt e s (place (entryGroup e) s end i))
+entryIn (entries e) end s i = below i (countAt (entries e) end s) (entryAt e s (groupOffset (entryGroup e) s end i))
 
 -- A1: the same of a listed type or none
-abbrev pub entryOf : Listed → List ℕ → ℕ → Asked Entry
-entryOf (listed m) s i = entryIn (behind m) (start m) s i
-entryOf unlisted s i = noSuchEntry
+abbrev pub entryListed : Listed → List ℕ → ℕ → Asked Entry
+entryListed (listed m) s i = entryIn (behind m) (groupsStart m) s i
+entryListed unlisted s i = noSuchEntry
 
 -- A2: entry i of a body that is judged first
-unfoldable pub entryAsked : ℕ → List ℕ → ℕ → Answer (Asked Entry)
-entryAsked type s i = andThen (judging type s) (λ (u : Unit). accepted (entryOf (named type) s i))
+unfoldable pub entryOf : ℕ → List ℕ → ℕ → Answer (Asked Entry)
+entryOf type s i = andThen (judge type s) (λ (u : Unit). accepted (entryListed (named type) s i))
 
 -- A4: shown quantity j of the group at an offset: the wire's count decides
 abbrev pub quantityAt : Group → List ℕ → ℕ → ℕ → Asked ℤ
 quantityAt g s at j =
     below j (shown g s at)
-    (valueIn (form quantity) (beAt s (shownPlace g at + width quantity * j) (width quantity)))
+    (valueIn (form quantity) (beAt s (shownOffset g at + width quantity * j) (width quantity)))
 
 -- A4: shown quantity j of entry i, where there is one
 abbrev pub ofFound : {A B : Type 0} → Asked A → Asked B → Asked B
@@ -179,15 +183,15 @@ abbrev pub quantityIn : Behind → ℕ → List ℕ → ℕ → ℕ → Asked �
 quantityIn nothing end s i j = noSuchEntry
 quantityIn (groups g) end s i j = noSuchEntry
 quantityIn (entries e) end s i j =
-    ofFound (entryIn (entries e) end s i) (quantityAt (entryGroup e) s (place (entryGroup e) s end i) j)
+    ofFound (entryIn (entries e) end s i) (quantityAt (entryGroup e) s (groupOffset (entryGroup e) s end i) j)
 
-abbrev pub quantityOf : Listed → List ℕ → ℕ → ℕ → Asked ℤ
-quantityOf (listed m) s i j = quantityIn (behind m) (start m) s i j
-quantityOf unlisted s i j = noSuchEntry
+abbrev pub quantityListed : Listed → List ℕ → ℕ → ℕ → Asked ℤ
+quantityListed (listed m) s i j = quantityIn (behind m) (groupsStart m) s i j
+quantityListed unlisted s i j = noSuchEntry
 
 -- A2: quantity j of entry i of a body that is judged first
-unfoldable pub quantityAsked : ℕ → List ℕ → ℕ → ℕ → Answer (Asked ℤ)
-quantityAsked type s i j = andThen (judging type s) (λ (u : Unit). accepted (quantityOf (named type) s i j))
+unfoldable pub quantityOf : ℕ → List ℕ → ℕ → ℕ → Answer (Asked ℤ)
+quantityOf type s i j = andThen (judge type s) (λ (u : Unit). accepted (quantityListed (named type) s i j))
 
 -- ---- the cursor
 
@@ -204,12 +208,12 @@ atNone = record { place = 0; left = 0 }
 abbrev pub startIn : Behind → ℕ → List ℕ → At
 startIn nothing end s = atNone
 startIn (groups g) end s = atNone
-startIn (entries e) end s = record { place = end; left = counted (entries e) end s }
+startIn (entries e) end s = record { place = end; left = countAt (entries e) end s }
 
 -- A5: the same of a listed type or none
-unfoldable pub startOf : Listed → List ℕ → At
-startOf (listed m) s = startIn (behind m) (start m) s
-startOf unlisted s = atNone
+unfoldable pub start : Listed → List ℕ → At
+start (listed m) s = startIn (behind m) (groupsStart m) s
+start unlisted s = atNone
 
 -- A6: an entry, and the cursor behind it
 pub record Stepped : Type 0 where
@@ -222,19 +226,19 @@ stepIn nothing s c = accepted noSuchEntry
 stepIn (groups g) s c = accepted noSuchEntry
 stepIn (entries e) s c =
     guard (eqb (c .left) 0) (accepted noSuchEntry)
-    (andThen (judgedFrom (entryGroup e) s (c .place) 1)
+    (andThen (judgeGroups (entryGroup e) s (c .place) 1)
     (λ (u : Unit).
     accepted
     (found
     (record {
       entry = entryAt e s (c .place);
-      onward = record { place = next (entryGroup e) s (c .place); left = c .left - 1 };
+      onward = record { place = nextOffset (entryGroup e) s (c .place); left = c .left - 1 };
     }))))
 
 -- A6: the same of a listed type or none
-unfoldable pub stepOf : Listed → List ℕ → At → Answer (Asked Stepped)
-stepOf (listed m) s c = stepIn (behind m) s c
-stepOf unlisted s c = accepted noSuchEntry
+unfoldable pub step : Listed → List ℕ → At → Answer (Asked Stepped)
+step (listed m) s c = stepIn (behind m) s c
+step unlisted s c = accepted noSuchEntry
 
 -- ---- step after step
 
@@ -246,8 +250,8 @@ onFrom (refused n vs) go = refused n vs
 
 -- step i from a cursor on, from 0
 unfoldable pub stepAfter : Listed → List ℕ → ℕ → At → Answer (Asked Stepped)
-stepAfter l s zero c = stepOf l s c
-stepAfter l s (suc i) c = onFrom (stepOf l s c) (stepAfter l s i)
+stepAfter l s zero c = step l s c
+stepAfter l s (suc i) c = onFrom (step l s c) (stepAfter l s i)
 
 -- the entry that a step answers, without the cursor
 abbrev pub entryFound : Answer (Asked Stepped) → Answer (Asked Entry)

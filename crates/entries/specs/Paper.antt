@@ -4,7 +4,7 @@ use mathlib.Core.List.{[]}
 use lib.IntN.{ℤ, pos}
 use Rattle.wire.specs.Answer.{Answer, accepted, refused}
 use Rattle.layout.specs.Layout.{Entries, ofSnapshot, ofIndex}
-use Rattle.layout.specs.Paper.{refusal}
+use Rattle.layout.specs.Paper.{bodyRefusal}
 use Rattle.record.specs.Asked.{Asked, found, noSuchEntry}
 use Rattle.entries.specs.Entry.{Says, level, levelWithoutPrice, price, size, both, noLimit, unknown, Entry, At, Stepped}
 use Rattle.entries.specs.declared.entry.Entries as code-entries
@@ -16,39 +16,39 @@ use Rattle.entries.specs.declared.cursor.Cursor as code-cursor
 use Rattle.entries.specs.declared.cursor.Step as code-step
 
 -- whose entries the code means
-abbrev pub whose : code-entries.Entries → Entries
-whose code-entries.the-variants.OfSnapshot = ofSnapshot
-whose code-entries.the-variants.OfIndex = ofIndex
+abbrev pub meansEntries : code-entries.Entries → Entries
+meansEntries code-entries.the-variants.OfSnapshot = ofSnapshot
+meansEntries code-entries.the-variants.OfIndex = ofIndex
 
 -- which of the seven things the code means
-abbrev pub paperSays : code-says.Says → Says
-paperSays (code-says.the-variants.Level p z l o n) = level p z (pos l) o (pos n)
-paperSays (code-says.the-variants.LevelWithoutPrice z l o n) = levelWithoutPrice z (pos l) o (pos n)
-paperSays (code-says.the-variants.Price p) = price p
-paperSays (code-says.the-variants.Size z) = size z
-paperSays (code-says.the-variants.Both p z) = both p z
-paperSays code-says.the-variants.NoLimit = noLimit
-paperSays code-says.the-variants.Unknown = unknown
+abbrev pub meansSays : code-says.Says → Says
+meansSays (code-says.the-variants.Level p z l o n) = level p z (pos l) o (pos n)
+meansSays (code-says.the-variants.LevelWithoutPrice z l o n) = levelWithoutPrice z (pos l) o (pos n)
+meansSays (code-says.the-variants.Price p) = price p
+meansSays (code-says.the-variants.Size z) = size z
+meansSays (code-says.the-variants.Both p z) = both p z
+meansSays code-says.the-variants.NoLimit = noLimit
+meansSays code-says.the-variants.Unknown = unknown
 
-abbrev pub paperEntry : code-entry.Entry → Entry
-paperEntry e = record { characters = e .characters; says = paperSays (e .says) }
+abbrev pub meansEntry : code-entry.Entry → Entry
+meansEntry e = record { characters = e .characters; says = meansSays (e .says) }
 
 -- what the calls by position answer
-abbrev pub paperAskedEntry : asked-entry.AskedEntry → Answer (Asked Entry)
-paperAskedEntry (asked-entry.the-variants.Found e) = accepted (found (paperEntry e))
-paperAskedEntry asked-entry.the-variants.NoSuchEntry = accepted noSuchEntry
-paperAskedEntry (asked-entry.the-variants.Refused x) = refused (refusal x) []
+abbrev pub meansAskedEntry : asked-entry.AskedEntry → Answer (Asked Entry)
+meansAskedEntry (asked-entry.the-variants.Found e) = accepted (found (meansEntry e))
+meansAskedEntry asked-entry.the-variants.NoSuchEntry = accepted noSuchEntry
+meansAskedEntry (asked-entry.the-variants.Refused x) = refused (bodyRefusal x) []
 
-abbrev pub paperQuantity : asked-quantity.AskedQuantity → Answer (Asked ℤ)
-paperQuantity (asked-quantity.the-variants.Found z) = accepted (found z)
-paperQuantity asked-quantity.the-variants.NoSuchEntry = accepted noSuchEntry
-paperQuantity (asked-quantity.the-variants.Refused x) = refused (refusal x) []
+abbrev pub meansQuantity : asked-quantity.AskedQuantity → Answer (Asked ℤ)
+meansQuantity (asked-quantity.the-variants.Found z) = accepted (found z)
+meansQuantity asked-quantity.the-variants.NoSuchEntry = accepted noSuchEntry
+meansQuantity (asked-quantity.the-variants.Refused x) = refused (bodyRefusal x) []
 
 -- the cursor, and its step
-abbrev pub paperCursor : code-cursor.Cursor → At
-paperCursor c = record { place = c .place; left = c .left }
+abbrev pub meansCursor : code-cursor.Cursor → At
+meansCursor c = record { place = c .place; left = c .left }
 
-abbrev pub paperStep : code-step.Step → Answer (Asked Stepped)
-paperStep (code-step.the-variants.Found e c) = accepted (found (record { entry = paperEntry e; onward = paperCursor c }))
-paperStep code-step.the-variants.NoSuchEntry = accepted noSuchEntry
-paperStep (code-step.the-variants.Refused x) = refused (refusal x) []
+abbrev pub meansStep : code-step.Step → Answer (Asked Stepped)
+meansStep (code-step.the-variants.Found e c) = accepted (found (record { entry = meansEntry e; onward = meansCursor c }))
+meansStep code-step.the-variants.NoSuchEntry = accepted noSuchEntry
+meansStep (code-step.the-variants.Refused x) = refused (bodyRefusal x) []

@@ -1,8 +1,8 @@
 // A cursor over the entries of a body.
 ghost use mathlib.Core.Path.{_≡_};
 ghost use Rattle.layout.specs.Layout.{entries, named};
-ghost use Rattle.entries.specs.Entry.{startOf, stepIn, stepOf};
-ghost use Rattle.entries.specs.Paper.{whose, paperCursor, paperStep};
+ghost use Rattle.entries.specs.Entry.{start, stepIn, step};
+ghost use Rattle.entries.specs.Paper.{meansEntries, meansCursor, meansStep};
 use crate::Entry;
 use crate::entry::COUNT;
 use crate::entry::Entries;
@@ -30,7 +30,7 @@ pub enum Step {
 
 // The entry at a place with some left, after 4 and 5 for its own fields and shown quantities.
 fn step_in(e: Entries, body: &[u8], place: usize, left: u32) -> Step
-    ensures { λ r. ⌜ paperStep r ≡ stepIn (entries (whose e)) (now (body .entry)) (record { place = place; left = left }) ⌝ }
+    ensures { λ r. ⌜ meansStep r ≡ stepIn (entries (meansEntries e)) (now (body .entry)) (record { place = place; left = left }) ⌝ }
 {
     if left == 0 {
         return Step::NoSuchEntry;
@@ -50,7 +50,7 @@ fn step_in(e: Entries, body: &[u8], place: usize, left: u32) -> Step
 impl Cursor {
     // The cursor before the first entry of a body; of a type without entries none is left.
     pub fn start(kind: u32, body: &[u8]) -> Cursor
-        ensures { λ r. ⌜ paperCursor r ≡ startOf (named kind) (now (body .entry)) ⌝ }
+        ensures { λ r. ⌜ meansCursor r ≡ start (named kind) (now (body .entry)) ⌝ }
     {
         match kind {
             Record::SNAPSHOT => Cursor {
@@ -67,7 +67,7 @@ impl Cursor {
 
     // The entry at the cursor and the cursor behind it; at 0 left there is none.
     pub fn step(self, kind: u32, body: &[u8]) -> Step
-        ensures { λ r. ⌜ paperStep r ≡ stepOf (named kind) (now (body .entry)) (paperCursor self) ⌝ }
+        ensures { λ r. ⌜ meansStep r ≡ step (named kind) (now (body .entry)) (meansCursor self) ⌝ }
     {
         let place = self.place;
         let left = self.left;

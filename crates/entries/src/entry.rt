@@ -7,22 +7,25 @@ ghost use lib.IntN.{pos};
 ghost use Rattle.wire.specs.Answer.{accepted};
 ghost use Rattle.wire.specs.Bytes.{beAt};
 ghost use Rattle.layout.specs.Kind.{among};
-ghost use Rattle.layout.specs.Layout.{ofSnapshot, ofIndex, entryGroup, entries};
-ghost use Rattle.layout.specs.Group.{fit, next, place};
-ghost use Rattle.layout.specs.Paper.{meant};
-ghost use Rattle.entries.specs.Entry.{levels, prices, boths, indexPrices, same, saysIn, entryAt, entryIn, entryAsked, quantityAt, quantityIn, quantityAsked};
+ghost use Rattle.layout.specs.Layout.{ofSnapshot, ofIndex, entryGroup, entries, commonSize};
+ghost use Rattle.layout.specs.Group.{fit, nextOffset, groupOffset};
+ghost use Rattle.layout.specs.Paper.{meansGroups};
+ghost use Rattle.entries.specs.Entry.{entriesStart, levels, prices, boths, indexPrices, same, saysIn, entryAt, entryIn, entryOf, quantityAt, quantityIn, quantityOf};
 ghost use Rattle.entries.specs.Entry as of;
-ghost use Rattle.entries.specs.Paper.{whose, paperSays, paperEntry, paperAskedEntry, paperQuantity};
+ghost use Rattle.entries.specs.Paper.{meansEntries, meansSays, meansEntry, meansAskedEntry, meansQuantity};
 use layout::Groups;
 use layout::Refusal;
 use layout::Verdict;
+use layout::entry;
+use layout::index_entry;
+use layout::width;
 use record::Record;
 use record::judge;
 
-// Where the count of entries stands, and where the first does: behind the common part.
-pub(crate) const COUNT: usize = 65;
+// Where the count of entries stands, and where the first does: behind the common part. An index has both where a snapshot has.
+pub(crate) const COUNT: usize = layout::snapshot::COUNT;
 
-pub(crate) const START: usize = 69;
+pub(crate) const START: usize = layout::snapshot::SIZE;
 
 // Whose entries: a snapshot's, or an index's.
 pub enum Entries {
@@ -80,13 +83,13 @@ pub enum AskedQuantity {
 }
 
 // Which type characters are a level, a price, price and size; and a price in an index. `0` is 0x3020, `x1` is 0x7831.
-fn is_level(characters: u16) -> bool
+pub fn is_level(characters: u16) -> bool
     ensures { λ r. ⌜ r ≡ among levels characters ⌝ }
 {
     (characters == 0x3020) | (characters == 0x3120)
 }
 
-fn is_price(characters: u16) -> bool
+pub fn is_price(characters: u16) -> bool
     ensures { λ r. ⌜ r ≡ among prices characters ⌝ }
 {
     (characters == 0x3220)
@@ -105,13 +108,13 @@ fn is_price(characters: u16) -> bool
                                                         | (characters == 0x786b)))))))))))))
 }
 
-fn is_both(characters: u16) -> bool
+pub fn is_both(characters: u16) -> bool
     ensures { λ r. ⌜ r ≡ among boths characters ⌝ }
 {
     (characters == 0x7833) | (characters == 0x7834)
 }
 
-fn is_index_price(characters: u16) -> bool
+pub fn is_index_price(characters: u16) -> bool
     ensures { λ r. ⌜ r ≡ among indexPrices characters ⌝ }
 {
     (characters == 0x3320)
@@ -119,20 +122,23 @@ fn is_index_price(characters: u16) -> bool
             | ((characters == 0x7862) | ((characters == 0x7863) | (characters == 0x7864))))
 }
 
-const XE: u16 = 0x7865;
+impl Says {
+    // The characters `xe` and `xf`, which say a price or no limit, and `xg`, which says a size.
+    pub const XE: u16 = 0x7865;
 
-const XF: u16 = 0x7866;
+    pub const XF: u16 = 0x7866;
 
-const XG: u16 = 0x7867;
+    pub const XG: u16 = 0x7867;
 
-// The prices by which `xe` and `xf` say that there is no limit.
-const NO_UPPER_LIMIT: i64 = 9_999_999_999_999;
+    // The prices by which `xe` and `xf` say that there is no limit.
+    pub const NO_UPPER_LIMIT: i64 = 9_999_999_999_999;
 
-const NO_LOWER_LIMIT: i64 = -9_999_999_999_999;
+    pub const NO_LOWER_LIMIT: i64 = -9_999_999_999_999;
+}
 
 // A price, unless it is the mark that there is no limit.
 fn limit(price: i64, mark: i64) -> Says
-    ensures { λ r. ⌜ paperSays r ≡ cond (same price mark) of.noLimit (of.price price) ⌝ }
+    ensures { λ r. ⌜ meansSays r ≡ cond (same price mark) of.noLimit (of.price price) ⌝ }
 {
     if price == mark {
         Says::NoLimit
@@ -143,7 +149,7 @@ fn limit(price: i64, mark: i64) -> Says
 
 // What an entry of a snapshot says.
 fn said(characters: u16, price: i64, size: i64, level: u16, orders: i64, shown: u32) -> Says
-    ensures { λ r. ⌜ paperSays r ≡ saysIn ofSnapshot characters (pos characters ∷ price ∷ size ∷ pos level ∷ orders ∷ pos shown ∷ []) ⌝ }
+    ensures { λ r. ⌜ meansSays r ≡ saysIn ofSnapshot characters (pos characters ∷ price ∷ size ∷ pos level ∷ orders ∷ pos shown ∷ []) ⌝ }
 {
     if is_level(characters) {
         if price == 0 {
@@ -165,13 +171,13 @@ fn said(characters: u16, price: i64, size: i64, level: u16, orders: i64, shown: 
     if is_price(characters) {
         return Says::Price { entry_price: price };
     }
-    if characters == XE {
-        return limit(price, NO_UPPER_LIMIT);
+    if characters == Says::XE {
+        return limit(price, Says::NO_UPPER_LIMIT);
     }
-    if characters == XF {
-        return limit(price, NO_LOWER_LIMIT);
+    if characters == Says::XF {
+        return limit(price, Says::NO_LOWER_LIMIT);
     }
-    if characters == XG {
+    if characters == Says::XG {
         return Says::Size { size };
     }
     if is_both(characters) {
@@ -185,7 +191,7 @@ fn said(characters: u16, price: i64, size: i64, level: u16, orders: i64, shown: 
 
 // What an entry of an index says.
 fn said_in_index(characters: u16, price: i64) -> Says
-    ensures { λ r. ⌜ paperSays r ≡ saysIn ofIndex characters (pos characters ∷ price ∷ []) ⌝ }
+    ensures { λ r. ⌜ meansSays r ≡ saysIn ofIndex characters (pos characters ∷ price ∷ []) ⌝ }
 {
     if is_index_price(characters) {
         Says::Price { entry_price: price }
@@ -196,31 +202,31 @@ fn said_in_index(characters: u16, price: i64) -> Says
 
 // The entry of a snapshot, and of an index, that some bytes start with.
 fn snapshot_entry(e: &[u8]) -> Entry
-    ensures { λ r. ⌜ paperEntry r ≡ entryAt ofSnapshot (now (e .entry)) 0 ⌝ }
+    ensures { λ r. ⌜ meansEntry r ≡ entryAt ofSnapshot (now (e .entry)) 0 ⌝ }
 {
-    let characters = wire::be2(e, 0);
+    let characters = wire::be2(e, entry::ENTRY_TYPE);
     let says = said(
         characters,
-        wire::i64_at(e, 2),
-        wire::i64_at(e, 10),
-        wire::be2(e, 18),
-        wire::i64_at(e, 20),
-        wire::be4(e, 28),
+        wire::i64_at(e, entry::PRICE),
+        wire::i64_at(e, entry::SIZE),
+        wire::be2(e, entry::LEVEL),
+        wire::i64_at(e, entry::ORDER_COUNT),
+        wire::be4(e, entry::SHOWN_COUNT),
     );
     Entry { characters, says }
 }
 
 fn index_entry(e: &[u8]) -> Entry
-    ensures { λ r. ⌜ paperEntry r ≡ entryAt ofIndex (now (e .entry)) 0 ⌝ }
+    ensures { λ r. ⌜ meansEntry r ≡ entryAt ofIndex (now (e .entry)) 0 ⌝ }
 {
-    let characters = wire::be2(e, 0);
-    let says = said_in_index(characters, wire::i64_at(e, 2));
+    let characters = wire::be2(e, index_entry::ENTRY_TYPE);
+    let says = said_in_index(characters, wire::i64_at(e, index_entry::PRICE));
     Entry { characters, says }
 }
 
 // The groups that entries are.
 pub(crate) fn groups(e: Entries) -> Groups
-    ensures { λ r. ⌜ meant r ≡ entryGroup (whose e) ⌝ }
+    ensures { λ r. ⌜ meansGroups r ≡ entryGroup (meansEntries e) ⌝ }
 {
     match e {
         Entries::OfSnapshot => Groups::SnapshotEntries,
@@ -230,16 +236,16 @@ pub(crate) fn groups(e: Entries) -> Groups
 
 // The entry at a place that has one.
 pub(crate) fn entry_at(e: Entries, s: &[u8], p: usize) -> Entry
-    requires { ⌜ fit (entryGroup (whose e)) (now s) p 1 ≡ true ⌝ }
-    ensures { λ r. ⌜ paperEntry r ≡ entryAt (whose e) (now (s .entry)) p ⌝ }
+    requires { ⌜ fit (entryGroup (meansEntries e)) (now s) p 1 ≡ true ⌝ }
+    ensures { λ r. ⌜ meansEntry r ≡ entryAt (meansEntries e) (now (s .entry)) p ⌝ }
 {
     match e {
         Entries::OfSnapshot => {
-            let q = p + 32;
+            let q = p + entry::WIDTH;
             snapshot_entry(&s[p..q])
         }
         Entries::OfIndex => {
-            let q = p + 10;
+            let q = p + index_entry::WIDTH;
             index_entry(&s[p..q])
         }
     }
@@ -247,28 +253,31 @@ pub(crate) fn entry_at(e: Entries, s: &[u8], p: usize) -> Entry
 
 // The place behind an entry and its shown quantities.
 pub(crate) fn behind(e: Entries, s: &[u8], p: usize) -> usize
-    requires { ⌜ fit (entryGroup (whose e)) (now s) p 1 ≡ true ⌝ }
-    ensures { λ r. ⌜ r ≡ next (entryGroup (whose e)) (now (s .entry)) p ⌝ }
+    requires { ⌜ fit (entryGroup (meansEntries e)) (now s) p 1 ≡ true ⌝ }
+    ensures { λ r. ⌜ r ≡ nextOffset (entryGroup (meansEntries e)) (now (s .entry)) p ⌝ }
 {
     match e {
         Entries::OfSnapshot => {
-            let q = p + 32;
+            let q = p + entry::WIDTH;
             let e = &s[p..q];
-            q + 8 * (wire::be4(e, 28) as usize)
+            q + width::QUANTITY * (wire::be4(e, entry::SHOWN_COUNT) as usize)
         }
-        Entries::OfIndex => p + 10,
+        Entries::OfIndex => p + index_entry::WIDTH,
     }
 }
 
 // Quantity j of those that the entry at a place shows.
 fn quantity_at(e: Entries, s: &[u8], p: usize, j: u32) -> AskedQuantity
-    requires { ⌜ fit (entryGroup (whose e)) (now s) p 1 ≡ true ⌝ }
-    ensures { λ r. ⌜ paperQuantity r ≡ accepted (quantityAt (entryGroup (whose e)) (now (s .entry)) p j) ⌝ }
+    requires { ⌜ fit (entryGroup (meansEntries e)) (now s) p 1 ≡ true ⌝ }
+    ensures { λ r. ⌜ meansQuantity r ≡ accepted (quantityAt (entryGroup (meansEntries e)) (now (s .entry)) p j) ⌝ }
 {
     match e {
         Entries::OfSnapshot => {
-            if j < wire::be4(s, p + 28) {
-                AskedQuantity::Found(wire::i64_at(s, p + 32 + 8 * (j as usize)))
+            if j < wire::be4(s, p + entry::SHOWN_COUNT) {
+                AskedQuantity::Found(wire::i64_at(
+                    s,
+                    p + entry::WIDTH + width::QUANTITY * (j as usize),
+                ))
             } else {
                 AskedQuantity::NoSuchEntry
             }
@@ -279,16 +288,16 @@ fn quantity_at(e: Entries, s: &[u8], p: usize, j: u32) -> AskedQuantity
 
 // Where entry i stands, of entries that are all there.
 fn place_of(e: Entries, s: &[u8], i: u32) -> usize
-    requires { ⌜ (fit (entryGroup (whose e)) (now s) 69 (beAt (now s) 65 4) ≡ true) × (i < beAt (now s) 65 4) ⌝ }
-    ensures { λ r. ⌜ (r ≡ place (entryGroup (whose e)) (now (s .entry)) 69 i) × (fit (entryGroup (whose e)) (now (s .entry)) r 1 ≡ true) ⌝ }
+    requires { ⌜ (fit (entryGroup (meansEntries e)) (now s) entriesStart (beAt (now s) commonSize 4) ≡ true) × (i < beAt (now s) commonSize 4) ⌝ }
+    ensures { λ r. ⌜ (r ≡ groupOffset (entryGroup (meansEntries e)) (now (s .entry)) entriesStart i) × (fit (entryGroup (meansEntries e)) (now (s .entry)) r 1 ≡ true) ⌝ }
 {
     layout::place(groups(e), s, START, i)
 }
 
 // Entry i of entries that are all there.
 fn entry_in(e: Entries, s: &[u8], i: u32) -> AskedEntry
-    requires { ⌜ fit (entryGroup (whose e)) (now s) 69 (beAt (now s) 65 4) ≡ true ⌝ }
-    ensures { λ r. ⌜ paperAskedEntry r ≡ accepted (entryIn (entries (whose e)) 69 (now (s .entry)) i) ⌝ }
+    requires { ⌜ fit (entryGroup (meansEntries e)) (now s) entriesStart (beAt (now s) commonSize 4) ≡ true ⌝ }
+    ensures { λ r. ⌜ meansAskedEntry r ≡ accepted (entryIn (entries (meansEntries e)) entriesStart (now (s .entry)) i) ⌝ }
 {
     if i < wire::be4(s, COUNT) {
         let p = place_of(e, s, i);
@@ -300,8 +309,8 @@ fn entry_in(e: Entries, s: &[u8], i: u32) -> AskedEntry
 
 // Shown quantity j of entry i, of entries that are all there.
 fn quantity_in(e: Entries, s: &[u8], i: u32, j: u32) -> AskedQuantity
-    requires { ⌜ fit (entryGroup (whose e)) (now s) 69 (beAt (now s) 65 4) ≡ true ⌝ }
-    ensures { λ r. ⌜ paperQuantity r ≡ accepted (quantityIn (entries (whose e)) 69 (now (s .entry)) i j) ⌝ }
+    requires { ⌜ fit (entryGroup (meansEntries e)) (now s) entriesStart (beAt (now s) commonSize 4) ≡ true ⌝ }
+    ensures { λ r. ⌜ meansQuantity r ≡ accepted (quantityIn (entries (meansEntries e)) entriesStart (now (s .entry)) i j) ⌝ }
 {
     if i < wire::be4(s, COUNT) {
         let p = place_of(e, s, i);
@@ -313,7 +322,7 @@ fn quantity_in(e: Entries, s: &[u8], i: u32, j: u32) -> AskedQuantity
 
 // Entry i of a body, from 0, after 4 and 5 for the whole of it.
 pub fn entry_of(kind: u32, body: &[u8], i: u32) -> AskedEntry
-    ensures { λ r. ⌜ paperAskedEntry r ≡ entryAsked kind (now (body .entry)) i ⌝ }
+    ensures { λ r. ⌜ meansAskedEntry r ≡ entryOf kind (now (body .entry)) i ⌝ }
 {
     match judge(kind, body) {
         Verdict::Accepted => match kind {
@@ -327,7 +336,7 @@ pub fn entry_of(kind: u32, body: &[u8], i: u32) -> AskedEntry
 
 // Shown quantity j of entry i, each from 0, whatever the entry says: the wire's count decides.
 pub fn quantity_of(kind: u32, body: &[u8], i: u32, j: u32) -> AskedQuantity
-    ensures { λ r. ⌜ paperQuantity r ≡ quantityAsked kind (now (body .entry)) i j ⌝ }
+    ensures { λ r. ⌜ meansQuantity r ≡ quantityOf kind (now (body .entry)) i j ⌝ }
 {
     match judge(kind, body) {
         Verdict::Accepted => match kind {

@@ -9,4 +9,8 @@ pub use entry::AskedQuantity;
 pub use entry::Entry;
 pub use entry::Says;
 pub use entry::entry_of;
+pub use entry::is_both;
+pub use entry::is_index_price;
+pub use entry::is_level;
+pub use entry::is_price;
 pub use entry::quantity_of;

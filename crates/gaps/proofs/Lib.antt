@@ -1,7 +1,6 @@
 pub mod Numbers
 pub mod Cut
 pub mod Grow
-pub mod Pack
 pub mod Sets
 pub mod History
 pub mod Exact

@@ -1,16 +1,16 @@
 -- Ranges of numbers with a sign, tested on the number without one; once for every bound.
 -- Assumes nothing.
-use Prim.Native.Nat.{ℕ, zero, suc, _+_, _-_, _/_, _%_, _<_, _≤_, _^_, zero-le}
-use mathlib.Core.Path.{_≡_, refl, ap, sym, _∙_}
+use Prim.Native.Nat.{ℕ, suc, _-_, _/_, _%_, _<_, _≤_, _^_}
+use mathlib.Core.Path.{_≡_, refl}
 use mathlib.Core.Bool.{Bool, true, false, _&&_, _||_, and-true, and-false, or-false}
 use native.Mathlib.Omega.{arith}
-use borrow.Author.Tests.{le-leb, lt-leb, lt-ltb, le-ltb, ltb-true, ltb-false, leb-true, leb-false}
+use borrow.Author.Tests.{le-leb, lt-leb, le-ltb, ltb-true, ltb-false, leb-true, leb-false}
 use lib.Dec.{leb, ltb, leb·zero}
-use lib.IntN.{ℤ, pos, negsuc}
+use lib.IntN.{pos, negsuc}
 use lib.Signed.{leZ}
 use mir.Syntax.{w64}
 use mir.Val.{toZ}
-use Rattle.layout.specs.Kind.{timely, from, month, day, hour, minute, second, year}
+use Rattle.layout.specs.Kind.{timely, month, hour, minute, second, year}
 
 -- a number of 64 bits is below 2^63 and itself, or it is negative
 module _ (v : ℕ) where

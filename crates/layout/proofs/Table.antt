@@ -1,8 +1,7 @@
 -- The third column of document 01's table: the bytes of each type's fields, of the common part, and of each group.
 -- Assumes nothing.
-use Prim.Native.Nat.{ℕ}
 use mathlib.Core.Path.{_≡_, refl}
-use mathlib.Core.List.{List, [], _∷_, map}
+use mathlib.Core.List.{[], _∷_, map}
 use Rattle.layout.specs.Layout.{Message, Group, messages, fields, commonPart, streams, switches, snapshotEntries, indexEntries, size}
 
 pub sizes : map (λ (m : Message). size (fields m)) messages ≡ 0 ∷ 12 ∷ 44 ∷ 14 ∷ 34 ∷ 69 ∷ 69 ∷ 69 ∷ 51 ∷ 66 ∷ []

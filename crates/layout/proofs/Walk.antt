@@ -1,8 +1,8 @@
 -- Groups one after the other: one step of each definition, at the code's k and k - 1; a group in the part that holds its fields; how a walk is judged.
 -- Assumes nothing.
 use Prim.Native.Nat.{ℕ, zero, suc, _+_, _-_, _*_, _<_, _≤_, zero-le}
-use mathlib.Core.Path.{_≡_, refl, ap, sym, _∙_}
-use mathlib.Core.Bool.{Bool, true, false, not, _&&_}
+use mathlib.Core.Path.{_≡_, refl, sym, _∙_}
+use mathlib.Core.Bool.{Bool, true, false, _&&_}
 use mathlib.Core.List.{List, [], _∷_}
 use native.Mathlib.Nat.{mul-suc}
 use native.Mathlib.Omega.{arith}
@@ -12,10 +12,10 @@ use lib.ListN.{length, take, drop}
 use Rattle.wire.specs.Answer.{Answer, accepted, refused, guard}
 use Rattle.wire.specs.Bytes.{beAt, part}
 use Rattle.wire.specs.Refusal.{notItsLayout}
-use Rattle.wire.proofs.Be.{beAt-part, beAt-here}
+use Rattle.wire.proofs.Be.{beAt-part}
 use Rattle.layout.specs.Kind.{Kind, quantity, width, ranged}
 use Rattle.layout.specs.Layout.{Message, fields, Group, size, ranges}
-use Rattle.layout.specs.Group.{shown, shownPlace, next, place, fit, quantities, groupRanges, verdict, judgedFrom, placeFrom, also, noGroup, group, start, count, needs, whole, judged}
+use Rattle.layout.specs.Group.{shown, shownOffset, nextOffset, groupOffset, fit, quantities, groupRanges, verdict, judgeGroups, offsetFrom, also, noGroup, group, groupsStart, count, needs, whole, judgeBody}
 
 -- ---- truth values
 
@@ -42,7 +42,7 @@ quantities-none (suc n) s at h = absurd (omega arith)
 -- ---- groups
 
 module _ (g : Group) (s : List ℕ) where
-  fit-step : (at k : ℕ) → 0 < k → fit g s at k ≡ leb (shownPlace g at) (length s) && (leb (next g s at) (length s) && fit g s (next g s at) (k - 1))
+  fit-step : (at k : ℕ) → 0 < k → fit g s at k ≡ leb (shownOffset g at) (length s) && (leb (nextOffset g s at) (length s) && fit g s (nextOffset g s at) (k - 1))
   unfolding fit
   fit-step at zero h = absurd (omega arith)
   fit-step at (suc k) h = rw (pred-is k)
@@ -52,49 +52,49 @@ module _ (g : Group) (s : List ℕ) where
   fit-none at zero h = refl
   fit-none at (suc k) h = absurd (omega arith)
 
-  pub fit-short : (at k : ℕ) → 0 < k → length s < shownPlace g at → fit g s at k ≡ false
-  fit-short at k h n = fit-step at k h ∙ rw (lt-leb (shownPlace g at) (length s) n)
+  pub fit-short : (at k : ℕ) → 0 < k → length s < shownOffset g at → fit g s at k ≡ false
+  fit-short at k h n = fit-step at k h ∙ rw (lt-leb (shownOffset g at) (length s) n)
 
-  pub fit-behind : (at k : ℕ) → 0 < k → length s < next g s at → fit g s at k ≡ false
-  fit-behind at k h n = fit-step at k h ∙ rw (lt-leb (next g s at) (length s) n) (no-more (leb (shownPlace g at) (length s)))
+  pub fit-behind : (at k : ℕ) → 0 < k → length s < nextOffset g s at → fit g s at k ≡ false
+  fit-behind at k h n = fit-step at k h ∙ rw (lt-leb (nextOffset g s at) (length s) n) (no-more (leb (shownOffset g at) (length s)))
     where
       no-more : (b : Bool) → b && false ≡ false
       no-more true = refl
       no-more false = refl
 
-  pub fit-on : (at k : ℕ) → 0 < k → next g s at ≤ length s → fit g s at k ≡ fit g s (next g s at) (k - 1)
+  pub fit-on : (at k : ℕ) → 0 < k → nextOffset g s at ≤ length s → fit g s at k ≡ fit g s (nextOffset g s at) (k - 1)
   fit-on at k h n =
-      fit-step at k h ∙ rw (le-leb (shownPlace g at) (length s) (omega arith), le-leb (next g s at) (length s) n)
+      fit-step at k h ∙ rw (le-leb (shownOffset g at) (length s) (omega arith), le-leb (nextOffset g s at) (length s) n)
 
   -- what is known of the next group where k fit
   pub record Ahead (at k : ℕ) : Type 0 where
-    pub fixed : shownPlace g at ≤ length s
-    pub whole : next g s at ≤ length s
-    pub rest : fit g s (next g s at) (k - 1) ≡ true
+    pub fixed : shownOffset g at ≤ length s
+    pub whole : nextOffset g s at ≤ length s
+    pub rest : fit g s (nextOffset g s at) (k - 1) ≡ true
 
   pub ahead : (at k : ℕ) → 0 < k → fit g s at k ≡ true → Ahead at k
   ahead at k h e =
-      let a = and-both (leb (shownPlace g at) (length s)) (leb (next g s at) (length s) && fit g s (next g s at) (k - 1)) (sym (fit-step at k h) ∙ e) in
-      let b = and-both (leb (next g s at) (length s)) (fit g s (next g s at) (k - 1)) (a .1) in
+      let a = and-both (leb (shownOffset g at) (length s)) (leb (nextOffset g s at) (length s) && fit g s (nextOffset g s at) (k - 1)) (sym (fit-step at k h) ∙ e) in
+      let b = and-both (leb (nextOffset g s at) (length s)) (fit g s (nextOffset g s at) (k - 1)) (a .1) in
       record { fixed = leb-true _ _ (a .0); whole = leb-true _ _ (b .0); rest = b .1 }
 
-  pub place-step : (at k : ℕ) → 0 < k → place g s at k ≡ place g s (next g s at) (k - 1)
-  unfolding place
+  pub place-step : (at k : ℕ) → 0 < k → groupOffset g s at k ≡ groupOffset g s (nextOffset g s at) (k - 1)
+  unfolding groupOffset
   place-step at zero h = absurd (omega arith)
   place-step at (suc k) h = rw (pred-is k)
 
-  pub place-none : (at k : ℕ) → k ≤ 0 → place g s at k ≡ at
-  unfolding place
+  pub place-none : (at k : ℕ) → k ≤ 0 → groupOffset g s at k ≡ at
+  unfolding groupOffset
   place-none at zero h = refl
   place-none at (suc k) h = absurd (omega arith)
 
   -- the place of the group behind group i
-  pub place-next : (at i : ℕ) → place g s at (suc i) ≡ next g s (place g s at i)
-  unfolding place
+  pub place-next : (at i : ℕ) → groupOffset g s at (suc i) ≡ nextOffset g s (groupOffset g s at i)
+  unfolding groupOffset
   place-next at zero = refl
-  place-next at (suc i) = place-next (next g s at) i
+  place-next at (suc i) = place-next (nextOffset g s at) i
 
-  pub groupRanges-step : (at k : ℕ) → 0 < k → groupRanges g s at k ≡ (ranges (g .fields) s at && quantities (shown g s at) s (shownPlace g at)) && groupRanges g s (next g s at) (k - 1)
+  pub groupRanges-step : (at k : ℕ) → 0 < k → groupRanges g s at k ≡ (ranges (g .fields) s at && quantities (shown g s at) s (shownOffset g at)) && groupRanges g s (nextOffset g s at) (k - 1)
   unfolding groupRanges
   groupRanges-step at zero h = absurd (omega arith)
   groupRanges-step at (suc k) h = rw (pred-is k)
@@ -109,65 +109,65 @@ module _ (g : Group) (s : List ℕ) where
   fit-fewer at zero k h e = fit-none at 0 zero-le
   fit-fewer at (suc i) k h e =
       let n : Ahead at k = ahead at k (omega arith) e in
-      fit-on at (suc i) (omega arith) (n .whole) ∙ rw (pred-is i) (fit-fewer (next g s at) i (k - 1) (omega arith) (n .rest))
+      fit-on at (suc i) (omega arith) (n .whole) ∙ rw (pred-is i) (fit-fewer (nextOffset g s at) i (k - 1) (omega arith) (n .rest))
 
-  pub place-within : (at i : ℕ) → at ≤ length s → fit g s at i ≡ true → place g s at i ≤ length s
+  pub place-within : (at i : ℕ) → at ≤ length s → fit g s at i ≡ true → groupOffset g s at i ≤ length s
   place-within at zero h e = rw (place-none at 0 zero-le) h
   place-within at (suc i) h e =
       let n : Ahead at (suc i) = ahead at (suc i) (omega arith) e in
-      rw (place-step at (suc i) (omega arith), pred-is i) (place-within (next g s at) i (n .whole) (rw (pred-is i) at (n .rest)))
+      rw (place-step at (suc i) (omega arith), pred-is i) (place-within (nextOffset g s at) i (n .whole) (rw (pred-is i) at (n .rest)))
 
-  pub place-behind : (at i : ℕ) → at ≤ place g s at i
-  unfolding place
+  pub place-behind : (at i : ℕ) → at ≤ groupOffset g s at i
+  unfolding groupOffset
   place-behind at zero = omega arith
-  place-behind at (suc i) = omega (arith, place-behind (next g s at) i)
+  place-behind at (suc i) = omega (arith, place-behind (nextOffset g s at) i)
 
   -- groups that the bytes lack end behind the bytes
-  pub place-beyond : (at k : ℕ) → fit g s at k ≡ false → length s < place g s at k
+  pub place-beyond : (at k : ℕ) → fit g s at k ≡ false → length s < groupOffset g s at k
   place-beyond at zero e = let z : _≡_ {A = ℕ} 0 1 = cc (fit-none at 0 zero-le) in absurd (omega arith)
-  place-beyond at (suc k) e = rw (place-step at (suc k) (omega arith), pred-is k) (go (leb (next g s at) (length s)) refl (λ f. place-beyond (next g s at) k f))
+  place-beyond at (suc k) e = rw (place-step at (suc k) (omega arith), pred-is k) (go (leb (nextOffset g s at) (length s)) refl (λ f. place-beyond (nextOffset g s at) k f))
     where
-      go : (b : Bool) → leb (next g s at) (length s) ≡ b → (fit g s (next g s at) k ≡ false → length s < place g s (next g s at) k) → length s < place g s (next g s at) k
-      go true h on = on (sym (fit-on at (suc k) (omega arith) (leb-true (next g s at) (length s) h) ∙ rw (pred-is k)) ∙ e)
-      go false h on = omega (arith, leb-false (next g s at) (length s) h, place-behind (next g s at) k)
+      go : (b : Bool) → leb (nextOffset g s at) (length s) ≡ b → (fit g s (nextOffset g s at) k ≡ false → length s < groupOffset g s (nextOffset g s at) k) → length s < groupOffset g s (nextOffset g s at) k
+      go true h on = on (sym (fit-on at (suc k) (omega arith) (leb-true (nextOffset g s at) (length s) h) ∙ rw (pred-is k)) ∙ e)
+      go false h on = omega (arith, leb-false (nextOffset g s at) (length s) h, place-behind (nextOffset g s at) k)
 
-  pub fit-there : (at i k : ℕ) → i < k → fit g s at k ≡ true → fit g s (place g s at i) (k - i) ≡ true
-  unfolding place
+  pub fit-there : (at i k : ℕ) → i < k → fit g s at k ≡ true → fit g s (groupOffset g s at i) (k - i) ≡ true
+  unfolding groupOffset
   fit-there at zero k h e = let m : k - 0 ≡ k = omega arith in rw m e
   fit-there at (suc i) k h e =
       let n : Ahead at k = ahead at k (omega arith) e in
       let m : k - 1 - i ≡ k - suc i = omega arith in
-      rw m at (fit-there (next g s at) i (k - 1) (omega arith) (n .rest))
+      rw m at (fit-there (nextOffset g s at) i (k - 1) (omega arith) (n .rest))
 
   -- group i of k that fit has its fields
-  pub fields-there : (at i k : ℕ) → i < k → fit g s at k ≡ true → place g s at i + size (g .fields) ≤ length s
-  fields-there at i k h e = ahead (place g s at i) (k - i) (omega arith) (fit-there at i k h e) .fixed
+  pub fields-there : (at i k : ℕ) → i < k → fit g s at k ≡ true → groupOffset g s at i + size (g .fields) ≤ length s
+  fields-there at i k h e = ahead (groupOffset g s at i) (k - i) (omega arith) (fit-there at i k h e) .fixed
 
   -- groups that show nothing stand one width from each other
-  pub place-flat : g .shows ≡ false → (at i : ℕ) → place g s at i ≡ at + size (g .fields) * i
-  unfolding place shown
+  pub place-flat : g .shows ≡ false → (at i : ℕ) → groupOffset g s at i ≡ at + size (g .fields) * i
+  unfolding groupOffset shown
   place-flat h at zero = omega arith
   place-flat h at (suc i) =
-      let e : next g s at ≡ at + size (g .fields) = rw h (omega arith) in
+      let e : nextOffset g s at ≡ at + size (g .fields) = rw h (omega arith) in
       rw (e, mul-suc (size (g .fields)) i, place-flat h (at + size (g .fields)) i) (omega arith)
 
 -- where a walk over k groups stops, and where it ends
 module _ (g : Group) (s : List ℕ) (at k : ℕ) where
-  pub stops : {b : Bool} {e : ℕ} → (b ≡ false) × (e ≡ at) → fit g s at k ≡ false → (b ≡ fit g s at k) × (e ≡ placeFrom g s at k)
-  unfolding placeFrom
+  pub stops : {b : Bool} {e : ℕ} → (b ≡ false) × (e ≡ at) → fit g s at k ≡ false → (b ≡ fit g s at k) × (e ≡ offsetFrom g s at k)
+  unfolding offsetFrom
   stops h f = rw f (h .0, h .1)
 
-  pub ends : {e : ℕ} → fit g s at k ≡ true → place g s at k ≡ e → (true ≡ fit g s at k) × (e ≡ placeFrom g s at k)
-  unfolding placeFrom
+  pub ends : {e : ℕ} → fit g s at k ≡ true → groupOffset g s at k ≡ e → (true ≡ fit g s at k) × (e ≡ offsetFrom g s at k)
+  unfolding offsetFrom
   ends f h = rw f (refl, sym h)
 
 -- ---- all of k groups there, and nothing behind them
 
-pub all-of : (g : Group) (s : List ℕ) (k : ℕ) {b : Bool} {e : ℕ} → b ≡ fit g s 0 k → e ≡ placeFrom g s 0 k → b && eqb e (length s) ≡ fit g s 0 k && eqb (place g s 0 k) (length s)
-unfolding placeFrom
+pub all-of : (g : Group) (s : List ℕ) (k : ℕ) {b : Bool} {e : ℕ} → b ≡ fit g s 0 k → e ≡ offsetFrom g s 0 k → b && eqb e (length s) ≡ fit g s 0 k && eqb (groupOffset g s 0 k) (length s)
+unfolding offsetFrom
 all-of g s k {b} {e} f h = rw (f, h) (by (fit g s 0 k) refl)
   where
-    by : (t : Bool) → fit g s 0 k ≡ t → fit g s 0 k && eqb (placeFrom g s 0 k) (length s) ≡ fit g s 0 k && eqb (place g s 0 k) (length s)
+    by : (t : Bool) → fit g s 0 k ≡ t → fit g s 0 k && eqb (offsetFrom g s 0 k) (length s) ≡ fit g s 0 k && eqb (groupOffset g s 0 k) (length s)
     by true q = rw q
     by false q = rw q
 
@@ -226,44 +226,44 @@ also-by false false false = refl
 
 module _ (m : Message) (s : List ℕ) where
   -- a body that lacks bytes of its fields
-  pub judged-short : length s < start m → judged m s ≡ refused notItsLayout []
-  unfolding judged guard
-  judged-short h = rw (lt-leb (start m) (length s) h)
+  pub judged-short : length s < groupsStart m → judgeBody m s ≡ refused notItsLayout []
+  unfolding judgeBody guard
+  judged-short h = rw (lt-leb (groupsStart m) (length s) h)
 
   -- one that has them
-  pub judged-long : start m ≤ length s → judged m s ≡ also (ranges (fields m) s 0) (judgedFrom (group m) s (start m) (count m s))
-  unfolding judged judgedFrom
+  pub judged-long : groupsStart m ≤ length s → judgeBody m s ≡ also (ranges (fields m) s 0) (judgeGroups (group m) s (groupsStart m) (count m s))
+  unfolding judgeBody judgeGroups
   judged-long h =
-      rw (le-leb (start m) (length s) h)
-      (also-by (fit (group m) s (start m) (count m s)) (ranges (fields m) s 0) (groupRanges (group m) s (start m) (count m s)))
+      rw (le-leb (groupsStart m) (length s) h)
+      (also-by (fit (group m) s (groupsStart m) (count m s)) (ranges (fields m) s 0) (groupRanges (group m) s (groupsStart m) (count m s)))
 
   -- a layout needs the bytes up to where its groups end, and no more
-  needs-by : (b : Bool) → leb (start m) (length s) ≡ b → whole m s ≡ false → length s < needs m s
+  needs-by : (b : Bool) → leb (groupsStart m) (length s) ≡ b → whole m s ≡ false → length s < needs m s
   needs-by true h e =
-      place-beyond (group m) s (start m) (count m s) (rw h at e)
-  needs-by false h e = omega (arith, leb-false (start m) (length s) h, place-behind (group m) s (start m) (count m s))
+      place-beyond (group m) s (groupsStart m) (count m s) (rw h at e)
+  needs-by false h e = omega (arith, leb-false (groupsStart m) (length s) h, place-behind (group m) s (groupsStart m) (count m s))
 
   pub needs-more : whole m s ≡ false → length s < needs m s
-  needs-more e = needs-by (leb (start m) (length s)) refl e
+  needs-more e = needs-by (leb (groupsStart m) (length s)) refl e
 
   pub needs-no-more : whole m s ≡ true → needs m s ≤ length s
   needs-no-more e =
-      let a = and-both (leb (start m) (length s)) (fit (group m) s (start m) (count m s)) e in
-      place-within (group m) s (start m) (count m s) (leb-true _ _ (a .0)) (a .1)
+      let a = and-both (leb (groupsStart m) (length s)) (fit (group m) s (groupsStart m) (count m s)) e in
+      place-within (group m) s (groupsStart m) (count m s) (leb-true _ _ (a .0)) (a .1)
 
 -- nothing behind the fields is always there and in range
-pub judged-nothing : (s : List ℕ) (at : ℕ) → judgedFrom noGroup s at 0 ≡ accepted tt
-unfolding judgedFrom fit groupRanges guard
+pub judged-nothing : (s : List ℕ) (at : ℕ) → judgeGroups noGroup s at 0 ≡ accepted tt
+unfolding judgeGroups fit groupRanges guard
 judged-nothing s at = refl
 
 -- an accepted body has its fields and its groups
 pub record Whole (m : Message) (s : List ℕ) : Type 0 where
-  pub long : start m ≤ length s
-  pub groups : fit (group m) s (start m) (count m s) ≡ true
+  pub long : groupsStart m ≤ length s
+  pub groups : fit (group m) s (groupsStart m) (count m s) ≡ true
 
-pub has-all : (m : Message) (s : List ℕ) → judged m s ≡ accepted tt → Whole m s
-unfolding judged
+pub has-all : (m : Message) (s : List ℕ) → judgeBody m s ≡ accepted tt → Whole m s
+unfolding judgeBody
 has-all m s e =
-    let g = good (leb (start m) (length s) && fit (group m) s (start m) (count m s)) (ranges (fields m) s 0 && groupRanges (group m) s (start m) (count m s)) e in
-    let b = and-both (leb (start m) (length s)) (fit (group m) s (start m) (count m s)) (g .all) in
+    let g = good (leb (groupsStart m) (length s) && fit (group m) s (groupsStart m) (count m s)) (ranges (fields m) s 0 && groupRanges (group m) s (groupsStart m) (count m s)) e in
+    let b = and-both (leb (groupsStart m) (length s)) (fit (group m) s (groupsStart m) (count m s)) (g .all) in
     record { long = leb-true _ _ (b .0); groups = b .1 }

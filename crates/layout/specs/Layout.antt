@@ -127,6 +127,10 @@ named type = chosen messages type
 
 -- ---- what the fields of a layout say, from an offset of some bytes on
 
+-- L4: the bytes of the common part
+abbrev pub commonSize : ℕ
+commonSize = 65
+
 -- L3: the third column, how many bytes the fields take
 unfoldable pub size : List Kind → ℕ
 size [] = 0

@@ -13,18 +13,18 @@ use Rattle.layout.specs.declared.group.Verdict.{Verdict}
 use Rattle.layout.specs.declared.group.Verdict.the-variants.{Accepted, Refused}
 
 -- the group that the code means
-abbrev pub meant : Groups → Group
-meant Streams = streams
-meant Switches = switches
-meant IndexEntries = indexEntries
-meant SnapshotEntries = snapshotEntries
+abbrev pub meansGroups : Groups → Group
+meansGroups Streams = streams
+meansGroups Switches = switches
+meansGroups IndexEntries = indexEntries
+meansGroups SnapshotEntries = snapshotEntries
 
 -- the number of a refusal
-abbrev pub refusal : Refusal → ℕ
-refusal NotItsLayout = notItsLayout
-refusal OutOfRange = outOfRange
+abbrev pub bodyRefusal : Refusal → ℕ
+bodyRefusal NotItsLayout = notItsLayout
+bodyRefusal OutOfRange = outOfRange
 
 -- the verdict
-abbrev pub paper : Verdict → Answer Unit
-paper Accepted = accepted tt
-paper (Refused x) = refused (refusal x) []
+abbrev pub meansVerdict : Verdict → Answer Unit
+meansVerdict Accepted = accepted tt
+meansVerdict (Refused x) = refused (bodyRefusal x) []

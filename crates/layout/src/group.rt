@@ -3,14 +3,20 @@ ghost use mathlib.Core.Path.{_≡_};
 ghost use mathlib.Core.Bool.{true, false};
 ghost use Prim.Native.Nat.{_+_, _*_, _<_, _≤_};
 ghost use lib.ListN.{length};
+ghost use Rattle.layout.specs.Kind as kind;
 ghost use Rattle.layout.specs.Layout.{size, ranges};
 ghost use Rattle.layout.specs.Group as of;
-ghost use Rattle.layout.specs.Group.{fit, quantities, groupRanges, judgedFrom, judgedAll, placeFrom};
-ghost use Rattle.layout.specs.Paper.{meant, paper};
-use crate::range::entry_price;
-use crate::range::natural;
-use crate::range::quantity;
-use crate::range::yes_no;
+ghost use Rattle.layout.specs.Group.{fit, quantities, groupRanges, judgeGroups, judgeAll, offsetFrom};
+ghost use Rattle.layout.specs.Paper.{meansGroups, meansVerdict};
+use crate::entry;
+use crate::index_entry;
+use crate::range::entry_price_in_range;
+use crate::range::natural_in_range;
+use crate::range::quantity_in_range;
+use crate::range::yes_no_in_range;
+use crate::stream;
+use crate::switch;
+use crate::width::QUANTITY;
 
 // The groups of a statistics body, of a security status, of an index, and of a snapshot.
 pub enum Groups {
@@ -34,7 +40,7 @@ pub enum Verdict {
 impl Verdict {
     // The verdict on a body: that on its groups, and 5 where a field in front of them is out of range.
     pub fn also(self, good: bool) -> Verdict
-        ensures { λ r. ⌜ paper r ≡ of.also good (paper self) ⌝ }
+        ensures { λ r. ⌜ meansVerdict r ≡ of.also good (meansVerdict self) ⌝ }
     {
         match self {
             Verdict::Accepted => {
@@ -51,56 +57,61 @@ impl Verdict {
 
 // The bytes of a group's fields.
 fn width(g: Groups) -> usize
-    ensures { λ r. ⌜ (r ≡ size (meant g .fields)) × ((4 ≤ r) × (r ≤ 32)) ⌝ }
+    ensures { λ r. ⌜ (r ≡ size (meansGroups g .fields)) × (kind.width kind.groupCount ≤ r) ⌝ }
 {
     match g {
-        Groups::Streams => 15,
-        Groups::Switches => 4,
-        Groups::IndexEntries => 10,
-        Groups::SnapshotEntries => 32,
+        Groups::Streams => stream::WIDTH,
+        Groups::Switches => switch::WIDTH,
+        Groups::IndexEntries => index_entry::WIDTH,
+        Groups::SnapshotEntries => entry::WIDTH,
     }
 }
 
 // How many quantities a group shows, by the bytes that begin with its fields.
 fn shown(g: Groups, e: &[u8]) -> usize
-    requires { ⌜ size (meant g .fields) ≤ length (now e) ⌝ }
-    ensures { λ r. ⌜ (r ≡ of.shown (meant g) (now (e .entry)) 0) × (r < 4294967296) ⌝ }
+    requires { ⌜ size (meansGroups g .fields) ≤ length (now e) ⌝ }
+    ensures { λ r. ⌜ (r ≡ of.shown (meansGroups g) (now (e .entry)) 0) × (r < 4294967296) ⌝ }
 {
     match g {
         Groups::Streams => 0,
         Groups::Switches => 0,
         Groups::IndexEntries => 0,
-        Groups::SnapshotEntries => wire::be4(&e[0..32], 28) as usize,
+        Groups::SnapshotEntries => wire::be4(&e[0..entry::WIDTH], entry::SHOWN_COUNT) as usize,
     }
 }
 
 // Whether the fields of a group, with which some bytes begin, are in range.
 fn fields_in(g: Groups, e: &[u8]) -> bool
-    requires { ⌜ size (meant g .fields) ≤ length (now e) ⌝ }
-    ensures { λ r. ⌜ r ≡ ranges (meant g .fields) (now (e .entry)) 0 ⌝ }
+    requires { ⌜ size (meansGroups g .fields) ≤ length (now e) ⌝ }
+    ensures { λ r. ⌜ r ≡ ranges (meansGroups g .fields) (now (e .entry)) 0 ⌝ }
 {
     match g {
         Groups::Streams => true,
-        Groups::Switches => yes_no(wire::be2(&e[0..4], 2)),
-        Groups::IndexEntries => entry_price(wire::be8(&e[0..10], 2)),
+        Groups::Switches => yes_no_in_range(wire::be2(&e[0..switch::WIDTH], switch::YES_NO)),
+        Groups::IndexEntries => entry_price_in_range(wire::be8(
+            &e[0..index_entry::WIDTH],
+            index_entry::PRICE,
+        )),
         Groups::SnapshotEntries => {
-            let f = &e[0..32];
-            entry_price(wire::be8(f, 2)) & (quantity(wire::be8(f, 10)) & natural(wire::be8(f, 20)))
+            let f = &e[0..entry::WIDTH];
+            entry_price_in_range(wire::be8(f, entry::PRICE))
+                & (quantity_in_range(wire::be8(f, entry::SIZE))
+                    & natural_in_range(wire::be8(f, entry::ORDER_COUNT)))
         }
     }
 }
 
 // Whether n quantities that are there are in range.
 fn quantities_in(n: usize, s: &[u8], at: usize) -> bool
-    requires { ⌜ at + 8 * n ≤ length (now s) ⌝ }
+    requires { ⌜ at + kind.width kind.quantity * n ≤ length (now s) ⌝ }
     ensures { λ r. ⌜ r ≡ quantities n (now (s .entry)) at ⌝ }
 {
     let mut p = at;
     let mut left = n;
     while 0 < left {
-        let q = p + 8;
+        let q = p + QUANTITY;
         let e = &s[p..q];
-        if quantity(wire::be8(e, 0)) {
+        if quantity_in_range(wire::be8(e, 0)) {
             p = q;
             left -= 1;
         } else {
@@ -110,7 +121,7 @@ fn quantities_in(n: usize, s: &[u8], at: usize) -> bool
     true
 }
 
-// Whether the bytes have k groups from a place on, and where these end; that place itself where they lack some.
+// Whether the bytes have k groups from an offset on, and where these end; that offset itself where they lack some.
 struct Span {
     fits: bool,
     end: usize,
@@ -126,7 +137,7 @@ fn short(at: usize) -> Span
 }
 
 fn walk(g: Groups, s: &[u8], at: usize, k: u32) -> Span
-    ensures { λ r. ⌜ (r .fits ≡ fit (meant g) (now (s .entry)) at k) × (r .end ≡ placeFrom (meant g) (now (s .entry)) at k) ⌝ }
+    ensures { λ r. ⌜ (r .fits ≡ fit (meansGroups g) (now (s .entry)) at k) × (r .end ≡ offsetFrom (meansGroups g) (now (s .entry)) at k) ⌝ }
 {
     let n = s.len();
     let w = width(g);
@@ -142,10 +153,10 @@ fn walk(g: Groups, s: &[u8], at: usize, k: u32) -> Span
         let q = p + w;
         let e = &s[p..q];
         let m = shown(g, e);
-        if n - q < 8 * m {
+        if n - q < QUANTITY * m {
             return short(at);
         }
-        p = q + 8 * m;
+        p = q + QUANTITY * m;
         left -= 1;
     }
     Span { fits: true, end: p }
@@ -153,8 +164,8 @@ fn walk(g: Groups, s: &[u8], at: usize, k: u32) -> Span
 
 // Whether k groups that are there are in range.
 fn groups_in(g: Groups, s: &[u8], at: usize, k: u32) -> bool
-    requires { ⌜ fit (meant g) (now s) at k ≡ true ⌝ }
-    ensures { λ r. ⌜ r ≡ groupRanges (meant g) (now (s .entry)) at k ⌝ }
+    requires { ⌜ fit (meansGroups g) (now s) at k ≡ true ⌝ }
+    ensures { λ r. ⌜ r ≡ groupRanges (meansGroups g) (now (s .entry)) at k ⌝ }
 {
     let w = width(g);
     let mut p = at;
@@ -164,7 +175,7 @@ fn groups_in(g: Groups, s: &[u8], at: usize, k: u32) -> bool
         let e = &s[p..q];
         let m = shown(g, e);
         if fields_in(g, e) & quantities_in(m, s, q) {
-            p = q + 8 * m;
+            p = q + QUANTITY * m;
             left -= 1;
         } else {
             return false;
@@ -175,8 +186,8 @@ fn groups_in(g: Groups, s: &[u8], at: usize, k: u32) -> bool
 
 // The verdict on k groups that are all there, or not.
 fn judged(g: Groups, s: &[u8], at: usize, k: u32, there: bool) -> Verdict
-    requires { ⌜ (there ≡ true → fit (meant g) (now s) at k ≡ true) ⌝ }
-    ensures { λ r. ⌜ paper r ≡ of.verdict there (groupRanges (meant g) (now (s .entry)) at k) ⌝ }
+    requires { ⌜ (there ≡ true → fit (meansGroups g) (now s) at k ≡ true) ⌝ }
+    ensures { λ r. ⌜ meansVerdict r ≡ of.verdict there (groupRanges (meansGroups g) (now (s .entry)) at k) ⌝ }
 {
     if there {
         if groups_in(g, s, at, k) {
@@ -189,9 +200,9 @@ fn judged(g: Groups, s: &[u8], at: usize, k: u32, there: bool) -> Verdict
     }
 }
 
-// Judges k groups from a place on: 4 where the bytes lack some, else 5 where a field or a shown quantity is out of range.
+// Judges k groups from an offset on: 4 where the bytes lack some, else 5 where a field or a shown quantity is out of range.
 pub fn judge(g: Groups, s: &[u8], at: usize, k: u32) -> Verdict
-    ensures { λ r. ⌜ paper r ≡ judgedFrom (meant g) (now (s .entry)) at k ⌝ }
+    ensures { λ r. ⌜ meansVerdict r ≡ judgeGroups (meansGroups g) (now (s .entry)) at k ⌝ }
 {
     let w = walk(g, s, at, k);
     judged(g, s, at, k, w.fits)
@@ -199,15 +210,15 @@ pub fn judge(g: Groups, s: &[u8], at: usize, k: u32) -> Verdict
 
 // Judges bytes that are to be k groups and nothing else.
 pub fn judge_all(g: Groups, s: &[u8], k: u32) -> Verdict
-    ensures { λ r. ⌜ paper r ≡ judgedAll (meant g) (now (s .entry)) k ⌝ }
+    ensures { λ r. ⌜ meansVerdict r ≡ judgeAll (meansGroups g) (now (s .entry)) k ⌝ }
 {
     let w = walk(g, s, 0, k);
     judged(g, s, 0, k, w.fits & (w.end == s.len()))
 }
 
-// Where group i stands, counted from a place on; that place itself where the bytes lack one before it.
+// Where group i stands, counted from an offset on; that offset itself where the bytes lack one before it.
 pub fn place(g: Groups, s: &[u8], at: usize, i: u32) -> usize
-    ensures { λ r. ⌜ r ≡ placeFrom (meant g) (now (s .entry)) at i ⌝ }
+    ensures { λ r. ⌜ r ≡ offsetFrom (meansGroups g) (now (s .entry)) at i ⌝ }
 {
     let w = walk(g, s, at, i);
     w.end

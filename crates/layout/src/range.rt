@@ -20,47 +20,47 @@ const HIGHEST_AMOUNT: u64 = 999_999_999_999_999_999;
 const TIME_LIMIT: u64 = 100_000_000_000_000_000;
 
 // A record number.
-pub fn number(v: u64) -> bool
+pub fn number_in_range(v: u64) -> bool
     ensures { λ r. ⌜ r ≡ ranged kind.number v ⌝ }
 {
     (1 <= v) & (v <= HIGHEST)
 }
 
 // A number that is at least 0: last, first, bid and offer number, trade and order count.
-pub fn natural(v: u64) -> bool
+pub fn natural_in_range(v: u64) -> bool
     ensures { λ r. ⌜ r ≡ ranged kind.lastNumber v ⌝ }
 {
     v <= HIGHEST
 }
 
 // The price of an order or a trade, or a previous close.
-pub fn price(v: u64) -> bool
+pub fn price_in_range(v: u64) -> bool
     ensures { λ r. ⌜ r ≡ ranged kind.orderPrice v ⌝ }
 {
     (v <= HIGHEST_PRICE) | (LOWEST_PRICE <= v)
 }
 
-pub fn entry_price(v: u64) -> bool
+pub fn entry_price_in_range(v: u64) -> bool
     ensures { λ r. ⌜ r ≡ ranged kind.entryPrice v ⌝ }
 {
     (v <= HIGHEST_ENTRY_PRICE) | (LOWEST_ENTRY_PRICE <= v)
 }
 
 // A quantity, size or volume.
-pub fn quantity(v: u64) -> bool
+pub fn quantity_in_range(v: u64) -> bool
     ensures { λ r. ⌜ r ≡ ranged kind.quantity v ⌝ }
 {
     v <= HIGHEST_QUANTITY
 }
 
-pub fn amount(v: u64) -> bool
+pub fn amount_in_range(v: u64) -> bool
     ensures { λ r. ⌜ r ≡ ranged kind.amount v ⌝ }
 {
     v <= HIGHEST_AMOUNT
 }
 
 // YYYYMMDDHHMMSSsss.
-pub fn time(v: u64) -> bool
+pub fn time_in_range(v: u64) -> bool
     ensures { λ r. ⌜ r ≡ ranged kind.time v ⌝ }
 {
     let date = v / 1_000_000_000;
@@ -75,37 +75,37 @@ pub fn time(v: u64) -> bool
             & ((hour <= 23) & ((minute <= 59) & ((second <= 60) & (v < TIME_LIMIT)))))
 }
 
-pub fn yes_no(v: u16) -> bool
+pub fn yes_no_in_range(v: u16) -> bool
     ensures { λ r. ⌜ r ≡ ranged kind.yesNo v ⌝ }
 {
     v <= 1
 }
 
-pub fn resend_type(v: u8) -> bool
+pub fn resend_type_in_range(v: u8) -> bool
     ensures { λ r. ⌜ r ≡ ranged kind.resendType v ⌝ }
 {
     (1 <= v) & (v <= 2)
 }
 
-pub fn status(v: u8) -> bool
+pub fn status_in_range(v: u8) -> bool
     ensures { λ r. ⌜ r ≡ ranged kind.status v ⌝ }
 {
     v <= 4
 }
 
-pub fn side(v: u8) -> bool
+pub fn side_in_range(v: u8) -> bool
     ensures { λ r. ⌜ r ≡ ranged kind.side v ⌝ }
 {
     (v == b'1') | ((v == b'2') | ((v == b'G') | (v == b'F')))
 }
 
-pub fn order_type(v: u8) -> bool
+pub fn order_type_in_range(v: u8) -> bool
     ensures { λ r. ⌜ r ≡ ranged kind.orderType v ⌝ }
 {
     (v == b'1') | ((v == b'2') | (v == b'U'))
 }
 
-pub fn execution(v: u8) -> bool
+pub fn execution_in_range(v: u8) -> bool
     ensures { λ r. ⌜ r ≡ ranged kind.execution v ⌝ }
 {
     (v == b'4') | (v == b'F')

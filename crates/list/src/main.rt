@@ -12,14 +12,24 @@ const GATHERED: usize = 65536;
 
 const MARGIN: usize = 64;
 
-// Where the listing is: bytes of the window that are listed, offset and frames so far, bytes gathered, and the number of the
-// refusal at that place, 0 where there is none.
+// Where the listing is: bytes of the window that are listed, offset and frames so far, bytes gathered, the number of the
+// refusal at that place, 0 where there is none, and whether a write failed.
 struct Place {
     from: usize,
     offset: u64,
     frames: u64,
     gathered: usize,
     refused: u32,
+    failed: bool,
+}
+
+// Tells a read that failed, and a write.
+fn input_failed() {
+    os::fail(b"list: standard input");
+}
+
+fn output_failed() {
+    os::fail(b"list: standard output");
 }
 
 // A line of three numbers behind what is gathered.
@@ -40,7 +50,7 @@ fn last_line(out: &mut [u8], at: usize, offset: u64, how: &[u8], number: u64) ->
     text::word(out, c, b"\n")
 }
 
-// Lists the frames of the window's bytes, from a place on.
+// Lists the frames of the window's bytes, from a place on, up to a refusal or a failed write.
 fn list_window(bytes: &[u8], out: &mut [u8], start: Place) -> Place
     ensures { λ r. ⌜ r .from ≤ length (now (bytes .entry)) ⌝ }
 {
@@ -52,10 +62,21 @@ fn list_window(bytes: &[u8], out: &mut [u8], start: Place) -> Place
         match frame::read(&bytes[from..]) {
             Framed::Whole(f) => {
                 gathered = line(out, gathered, offset, f.kind, f.len);
-                gathered = window::flush(out, gathered, MARGIN);
+                let held = window::flush(out, gathered, MARGIN);
+                gathered = held.count;
                 from += f.total;
                 offset = std::num::wrapping_add_u64(offset, f.total as u64);
                 frames = std::num::wrapping_add_u64(frames, 1);
+                if held.failed {
+                    return Place {
+                        from,
+                        offset,
+                        frames,
+                        gathered,
+                        refused: 0,
+                        failed: true,
+                    };
+                }
             }
             Framed::Refused(why) => {
                 let refused = frame::number(why);
@@ -65,6 +86,7 @@ fn list_window(bytes: &[u8], out: &mut [u8], start: Place) -> Place
                     frames,
                     gathered,
                     refused,
+                    failed: false,
                 };
             }
         }
@@ -75,15 +97,23 @@ fn list_window(bytes: &[u8], out: &mut [u8], start: Place) -> Place
         frames,
         gathered,
         refused: 0,
+        failed: false,
+    }
+}
+
+// Writes all that is gathered, and tells a failed write.
+fn put(out: &[u8], gathered: usize) {
+    let held = window::flush(out, gathered, GATHERED + 1);
+    if held.failed {
+        output_failed();
     }
 }
 
 // The last line, and all that is gathered.
 fn finish(out: &mut [u8], place: Place) {
-    let all = GATHERED + 1;
     if place.refused == 0 {
         let held = last_line(out, place.gathered, place.offset, b" end ", place.frames);
-        window::flush(out, held, all);
+        put(out, held);
         return;
     }
     let held = last_line(
@@ -93,10 +123,11 @@ fn finish(out: &mut [u8], place: Place) {
         b" refused ",
         place.refused as u64,
     );
-    window::flush(out, held, all);
+    put(out, held);
 }
 
-// Lists standard input. A refusal 1 waits for more bytes while there are any; the turns are more than any input takes.
+// Lists standard input. A refusal 1 waits for more bytes while there are any; the turns are more than any input takes. A read or
+// a write that fails is told, and no line says that the listing is whole.
 fn list(bytes: &mut [u8], out: &mut [u8]) {
     let mut place = Place {
         from: 0,
@@ -104,13 +135,24 @@ fn list(bytes: &mut [u8], out: &mut [u8]) {
         frames: 0,
         gathered: 0,
         refused: 0,
+        failed: false,
     };
     let mut held: usize = 0;
     let mut turns = u64::MAX;
     while 0 < turns {
         turns -= 1;
-        let now_held = window::fill(bytes, held);
+        let filled = window::fill(bytes, held);
+        if filled.failed {
+            input_failed();
+            put(out, place.gathered);
+            return;
+        }
+        let now_held = filled.count;
         place = list_window(&bytes[0..now_held], out, place);
+        if place.failed {
+            output_failed();
+            return;
+        }
         if (now_held == held) | (1 < place.refused) {
             finish(out, place);
             return;

@@ -1,4 +1,5 @@
 pub mod Answered
+pub mod Told
 pub mod Shown
 pub mod Lent
 pub mod Unique

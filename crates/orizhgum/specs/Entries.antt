@@ -99,12 +99,12 @@ saying t noLimit = bare saysNoLimit t (pos 0)
 saying t unknown = bare saysUnknown t (pos 0)
 
 -- C6: an entry's struct
-abbrev pub shownEntry : entry-of.Entry → Entry
-shownEntry e = saying (e .characters) (e .says)
+abbrev pub entryFromC : entry-of.Entry → Entry
+entryFromC e = saying (e .characters) (e .says)
 
 -- C6: an entry by position
 unfoldable pub entryAnswer : Answer (Asked entry-of.Entry) → EntryAnswer
-entryAnswer (accepted (found e)) = record { answer = plain; entry = shownEntry e }
+entryAnswer (accepted (found e)) = record { answer = plain; entry = entryFromC e }
 entryAnswer (accepted noSuchEntry) = record { answer = noSuchEntryNumber; entry = noEntry }
 entryAnswer (refused n vs) = record { answer = n; entry = noEntry }
 
@@ -119,7 +119,7 @@ unfoldable pub stepAnswer : Answer (Asked Stepped) → Cursor → StepAnswer
 stepAnswer (accepted (found x)) c =
     record {
       answer = plain;
-      entry = shownEntry (x .entry);
+      entry = entryFromC (x .entry);
       next = record { place = x .onward .place; left = x .onward .left };
     }
 stepAnswer (accepted noSuchEntry) c = record { answer = noSuchEntryNumber; entry = noEntry; next = c }

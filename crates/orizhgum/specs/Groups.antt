@@ -4,7 +4,7 @@ use Prim.Native.Nat.{ℕ}
 use mathlib.Core.List.{List, [], _∷_}
 use lib.IntN.{ℤ, natAbs}
 use Rattle.wire.specs.Answer.{Answer, accepted, refused}
-use Rattle.record.specs.Asked.{Told, Asked, found, noSuchEntry}
+use Rattle.record.specs.Asked.{WithTexts, Asked, found, noSuchEntry}
 use Rattle.orizhgum.specs.Numbers.{plain, noSuchEntryNumber}
 use Rattle.orizhgum.specs.declared.groups.Grouped.{Grouped}
 
@@ -22,11 +22,11 @@ abbrev pub without : ℕ → List ℕ → Grouped
 without n ts = record { answer = n; «stock_number» = 0; «switch_type» = 0; «yes_no» = 0; texts = ts }
 
 -- C5: by the answer
-abbrev pub groupTold : Answer (Asked (List ℤ)) → List ℕ → Grouped
-groupTold (accepted (found vs)) ts = numbered vs ts
-groupTold (accepted noSuchEntry) ts = without noSuchEntryNumber ts
-groupTold (refused n vs) ts = without n ts
+abbrev pub groupWith : Answer (Asked (List ℤ)) → List ℕ → Grouped
+groupWith (accepted (found vs)) ts = numbered vs ts
+groupWith (accepted noSuchEntry) ts = without noSuchEntryNumber ts
+groupWith (refused n vs) ts = without n ts
 
 -- C5: a group by position
-unfoldable pub groupAnswer : Told (Asked (List ℤ)) → Grouped
-groupAnswer t = groupTold (t .answer) (t .texts)
+unfoldable pub groupAnswer : WithTexts (Asked (List ℤ)) → Grouped
+groupAnswer t = groupWith (t .answer) (t .texts)

@@ -1,6 +1,6 @@
 // The numbers of the answers: 0 is the plain one, 1 to 99 are the refusals, 100 and up the others.
 ghost use mathlib.Core.Path.{_≡_};
-ghost use Rattle.layout.specs.Paper.{refusal};
+ghost use Rattle.layout.specs.Paper.{bodyRefusal};
 use layout::Refusal;
 
 pub(crate) const PLAIN: u32 = 0;
@@ -19,7 +19,7 @@ pub(crate) const NOTHING_MISSING: u32 = 105;
 
 // The number of a body's refusal.
 pub(crate) fn number(x: Refusal) -> u32
-    ensures { λ r. ⌜ r ≡ refusal x ⌝ }
+    ensures { λ r. ⌜ r ≡ bodyRefusal x ⌝ }
 {
     match x {
         Refusal::NotItsLayout => 4,

@@ -1,14 +1,15 @@
 // The tracker: set up, and the tick and channel heartbeat over its arrays, which become those of the next one.
 ghost use mathlib.Core.Path.{_≡_};
 ghost use Rattle.gaps.specs.Channel.{tick, heartbeat};
+ghost use Rattle.seats.specs.Arrays.{atEntry, atExit};
+ghost use Rattle.tracker.specs.Places.{made};
 ghost use Rattle.tracker.specs.SetUp.{setUp};
-ghost use Rattle.tracker.specs.Arrived.{on, arrived, saidOf};
-ghost use Rattle.orizhgum.specs.Arrivals.{saidNumber, startAnswer, ending, heldIn, left, arrivalAnswer};
+ghost use Rattle.tracker.specs.Arrived.{on, arrive, arrivalSaid};
+ghost use Rattle.orizhgum.specs.Arrivals.{saidNumber, startAnswer, ending, replied, arrivalAnswer};
 use crate::answers::DUPLICATE;
 use crate::answers::LATE;
 use crate::answers::PLAIN;
 use seats::Seat;
-use tracker::Start;
 use tracker::Tracker;
 use tracker::Verdict;
 use tracker::heartbeat_in;
@@ -22,17 +23,17 @@ pub struct StartAnswer {
 
 // The number of an arrival's answer.
 fn verdict_number(verdict: Verdict) -> u32
-    ensures { λ r. ⌜ r ≡ saidNumber (saidOf verdict) ⌝ }
+    ensures { λ r. ⌜ r ≡ saidNumber (arrivalSaid verdict) ⌝ }
 {
     match verdict {
         Verdict::New => PLAIN,
         Verdict::Late => LATE,
         Verdict::Duplicate => DUPLICATE,
         Verdict::Heard => PLAIN,
-        Verdict::NoSuchChannel => 7,
-        Verdict::NumberTooLow => 8,
-        Verdict::TableFull => 9,
-        Verdict::Malformed => 10,
+        Verdict::NoSuchChannel => verdict.number(),
+        Verdict::NumberTooLow => verdict.number(),
+        Verdict::TableFull => verdict.number(),
+        Verdict::Malformed => verdict.number(),
     }
 }
 
@@ -44,15 +45,9 @@ pub extern "C" fn orizhgum_set_up(channels: &[u16]) -> StartAnswer
     let s = Tracker::set_up(channels);
     let verdict = s.verdict;
     let tracker = s.tracker;
-    match verdict {
-        Start::SetUp => StartAnswer {
-            answer: PLAIN,
-            tracker,
-        },
-        Start::Malformed => StartAnswer {
-            answer: 10,
-            tracker,
-        },
+    StartAnswer {
+        answer: verdict.number(),
+        tracker,
     }
 }
 
@@ -69,7 +64,7 @@ pub extern "C" fn orizhgum_tick_in(
     channel: u16,
     number: i64,
 ) -> u32
-    ensures { λ r. ⌜ left r count (now (numbers .entry)) (now (highest .exit)) (now (ended .exit)) (now (counts .exit)) (now (first .exit)) (now (last .exit)) ≡ arrivalAnswer (arrived (heldIn count (now (numbers .entry)) (now (highest .entry)) (now (ended .entry)) (now (counts .entry)) (now (first .entry)) (now (last .entry))) (on channel (tick number))) ⌝ }
+    ensures { λ r. ⌜ replied r (made (atExit count numbers highest ended counts first last)) ≡ arrivalAnswer (arrive (made (atEntry count numbers highest ended counts first last)) (on channel (tick number))) ⌝ }
 {
     verdict_number(tick_in(
         count,
@@ -86,7 +81,7 @@ pub extern "C" fn orizhgum_tick_in(
 
 // A channel heartbeat, in the same way; end 0 is no, anything else yes.
 #[no_mangle]
-pub extern "C" fn orizhgum_heartbeat_in(
+pub extern "C" fn orizhgum_heard_in(
     count: usize,
     numbers: &[u16; Tracker::CHANNELS],
     highest: &mut [u64; Tracker::CHANNELS],
@@ -98,7 +93,7 @@ pub extern "C" fn orizhgum_heartbeat_in(
     last_number: i64,
     end: u8,
 ) -> u32
-    ensures { λ r. ⌜ left r count (now (numbers .entry)) (now (highest .exit)) (now (ended .exit)) (now (counts .exit)) (now (first .exit)) (now (last .exit)) ≡ arrivalAnswer (arrived (heldIn count (now (numbers .entry)) (now (highest .entry)) (now (ended .entry)) (now (counts .entry)) (now (first .entry)) (now (last .entry))) (on channel (heartbeat «last_number» (ending end)))) ⌝ }
+    ensures { λ r. ⌜ replied r (made (atExit count numbers highest ended counts first last)) ≡ arrivalAnswer (arrive (made (atEntry count numbers highest ended counts first last)) (on channel (heartbeat «last_number» (ending end)))) ⌝ }
 {
     verdict_number(heartbeat_in(
         count,

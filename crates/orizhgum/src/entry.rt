@@ -1,9 +1,9 @@
 // Entries: a cursor that steps from one to the next, and entries and their shown quantities by position. No struct of an entry holds a price: a price comes only through a call with a lent number.
 ghost use mathlib.Core.Path.{_≡_};
 ghost use Rattle.layout.specs.Layout.{named};
-ghost use Rattle.entries.specs.Entry.{entryAsked, quantityAsked, startOf, stepOf, entryFound};
-ghost use Rattle.entries.specs.Paper.{paperSays, paperEntry, paperCursor};
-ghost use Rattle.orizhgum.specs.Entries.{bare, priceOf, priceNumber, priceLeft, shownEntry, noEntry, entryAnswer, stepAnswer, quantityAnswer, pricing, pricedLeft};
+ghost use Rattle.entries.specs.Entry.{entryOf, quantityOf, start, step, entryFound};
+ghost use Rattle.entries.specs.Paper.{meansSays, meansEntry, meansCursor};
+ghost use Rattle.orizhgum.specs.Entries.{bare, priceOf, priceNumber, priceLeft, entryFromC, noEntry, entryAnswer, stepAnswer, quantityAnswer, pricing, pricedLeft};
 use crate::answers::NO_PRICE;
 use crate::answers::NO_SUCH_ENTRY;
 use crate::answers::PLAIN;
@@ -15,19 +15,19 @@ use entries::Says;
 use entries::Step;
 
 // The seven things that an entry says, by number.
-const LEVEL: u32 = 1;
+pub(crate) const LEVEL: u32 = 1;
 
-const LEVEL_WITHOUT_PRICE: u32 = 2;
+pub(crate) const LEVEL_WITHOUT_PRICE: u32 = 2;
 
-const PRICE: u32 = 3;
+pub(crate) const PRICE: u32 = 3;
 
-const SIZE: u32 = 4;
+pub(crate) const SIZE: u32 = 4;
 
-const BOTH: u32 = 5;
+pub(crate) const BOTH: u32 = 5;
 
-const NO_LIMIT: u32 = 6;
+pub(crate) const NO_LIMIT: u32 = 6;
 
-const UNKNOWN: u32 = 7;
+pub(crate) const UNKNOWN: u32 = 7;
 
 // An entry without its price: its two type characters, the first the higher byte, which of the seven things it says, and the numbers that go with that; the others are zero.
 #[repr(C)]
@@ -59,7 +59,7 @@ pub struct QuantityAnswer {
     pub quantity: i64,
 }
 
-fn no_entry() -> Entry
+pub(crate) fn no_entry() -> Entry
     ensures { λ r. ⌜ r ≡ noEntry ⌝ }
 {
     Entry {
@@ -73,7 +73,7 @@ fn no_entry() -> Entry
 }
 
 // An entry that says at most a size.
-fn bare_entry(says: u32, characters: u16, size: i64) -> Entry
+pub(crate) fn bare_entry(says: u32, characters: u16, size: i64) -> Entry
     ensures { λ r. ⌜ r ≡ bare says characters size ⌝ }
 {
     Entry {
@@ -87,7 +87,7 @@ fn bare_entry(says: u32, characters: u16, size: i64) -> Entry
 }
 
 fn without_price(e: entries::Entry) -> Entry
-    ensures { λ r. ⌜ r ≡ shownEntry (paperEntry e) ⌝ }
+    ensures { λ r. ⌜ r ≡ entryFromC (meansEntry e) ⌝ }
 {
     let characters = e.characters;
     let says = e.says;
@@ -132,8 +132,8 @@ fn without_price(e: entries::Entry) -> Entry
 
 // The price that an entry says goes to the lent number; where it says none, the number is left as it stood.
 fn give(says: Says, price: &mut i64) -> u32
-    ensures { λ r. ⌜ r ≡ priceNumber (priceOf (paperSays says)) ⌝ }
-    ensures { λ r. ⌜ now (price .exit) ≡ priceLeft (priceOf (paperSays says)) (now (price .entry)) ⌝ }
+    ensures { λ r. ⌜ r ≡ priceNumber (priceOf (meansSays says)) ⌝ }
+    ensures { λ r. ⌜ now (price .exit) ≡ priceLeft (priceOf (meansSays says)) (now (price .entry)) ⌝ }
 {
     match says {
         Says::Level {
@@ -172,7 +172,7 @@ fn give(says: Says, price: &mut i64) -> u32
 // Entry i of a body, from 0.
 #[no_mangle]
 pub extern "C" fn orizhgum_entry(kind: u32, body: &[u8], i: u32) -> EntryAnswer
-    ensures { λ r. ⌜ r ≡ entryAnswer (entryAsked kind (now (body .entry)) i) ⌝ }
+    ensures { λ r. ⌜ r ≡ entryAnswer (entryOf kind (now (body .entry)) i) ⌝ }
 {
     match entries::entry_of(kind, body, i) {
         AskedEntry::Found(e) => EntryAnswer {
@@ -193,8 +193,8 @@ pub extern "C" fn orizhgum_entry(kind: u32, body: &[u8], i: u32) -> EntryAnswer
 // The price of entry i; "no price" leaves the lent number as it stood, and so does every refusal.
 #[no_mangle]
 pub extern "C" fn orizhgum_entry_price(kind: u32, body: &[u8], i: u32, price: &mut i64) -> u32
-    ensures { λ r. ⌜ r ≡ pricing (entryAsked kind (now (body .entry)) i) ⌝ }
-    ensures { λ r. ⌜ now (price .exit) ≡ pricedLeft (entryAsked kind (now (body .entry)) i) (now (price .entry)) ⌝ }
+    ensures { λ r. ⌜ r ≡ pricing (entryOf kind (now (body .entry)) i) ⌝ }
+    ensures { λ r. ⌜ now (price .exit) ≡ pricedLeft (entryOf kind (now (body .entry)) i) (now (price .entry)) ⌝ }
 {
     match entries::entry_of(kind, body, i) {
         AskedEntry::Found(e) => {
@@ -209,7 +209,7 @@ pub extern "C" fn orizhgum_entry_price(kind: u32, body: &[u8], i: u32, price: &m
 // Shown quantity j of entry i, each from 0.
 #[no_mangle]
 pub extern "C" fn orizhgum_quantity(kind: u32, body: &[u8], i: u32, j: u32) -> QuantityAnswer
-    ensures { λ r. ⌜ r ≡ quantityAnswer (quantityAsked kind (now (body .entry)) i j) ⌝ }
+    ensures { λ r. ⌜ r ≡ quantityAnswer (quantityOf kind (now (body .entry)) i j) ⌝ }
 {
     match entries::quantity_of(kind, body, i, j) {
         AskedQuantity::Found(quantity) => QuantityAnswer {
@@ -230,7 +230,7 @@ pub extern "C" fn orizhgum_quantity(kind: u32, body: &[u8], i: u32, j: u32) -> Q
 // The cursor before the first entry of a body.
 #[no_mangle]
 pub extern "C" fn orizhgum_cursor(kind: u32, body: &[u8]) -> Cursor
-    ensures { λ r. ⌜ paperCursor r ≡ startOf (named kind) (now (body .entry)) ⌝ }
+    ensures { λ r. ⌜ meansCursor r ≡ start (named kind) (now (body .entry)) ⌝ }
 {
     Cursor::start(kind, body)
 }
@@ -238,7 +238,7 @@ pub extern "C" fn orizhgum_cursor(kind: u32, body: &[u8]) -> Cursor
 // The entry at a cursor, and the cursor behind it; where there is none, or it is refused, the cursor as it stood.
 #[no_mangle]
 pub extern "C" fn orizhgum_step(at: Cursor, kind: u32, body: &[u8]) -> StepAnswer
-    ensures { λ r. ⌜ r ≡ stepAnswer (stepOf (named kind) (now (body .entry)) (paperCursor at)) at ⌝ }
+    ensures { λ r. ⌜ r ≡ stepAnswer (step (named kind) (now (body .entry)) (meansCursor at)) at ⌝ }
 {
     match at.step(kind, body) {
         Step::Found(e, next) => StepAnswer {
@@ -262,8 +262,8 @@ pub extern "C" fn orizhgum_step(at: Cursor, kind: u32, body: &[u8]) -> StepAnswe
 // The price of the entry at a cursor, as that of entry i.
 #[no_mangle]
 pub extern "C" fn orizhgum_step_price(at: Cursor, kind: u32, body: &[u8], price: &mut i64) -> u32
-    ensures { λ r. ⌜ r ≡ pricing (entryFound (stepOf (named kind) (now (body .entry)) (paperCursor at))) ⌝ }
-    ensures { λ r. ⌜ now (price .exit) ≡ pricedLeft (entryFound (stepOf (named kind) (now (body .entry)) (paperCursor at))) (now (price .entry)) ⌝ }
+    ensures { λ r. ⌜ r ≡ pricing (entryFound (step (named kind) (now (body .entry)) (meansCursor at))) ⌝ }
+    ensures { λ r. ⌜ now (price .exit) ≡ pricedLeft (entryFound (step (named kind) (now (body .entry)) (meansCursor at))) (now (price .entry)) ⌝ }
 {
     match at.step(kind, body) {
         Step::Found(e, _) => {

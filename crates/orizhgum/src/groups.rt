@@ -1,10 +1,11 @@
 // The groups of statistics and of security status, by position.
 ghost use mathlib.Core.Path.{_≡_};
-ghost use Rattle.record.specs.Record.{groupAsked};
+ghost use Rattle.record.specs.Record.{groupOf};
 ghost use Rattle.orizhgum.specs.Groups.{groupAnswer};
 use crate::answers::NO_SUCH_ENTRY;
 use crate::answers::PLAIN;
 use crate::answers::number;
+use layout::TEXT_ROOM;
 use record::GroupAnswer;
 
 // A group: the stock number and the texts of a stream, or a switch type and its yes/no; the others are zero.
@@ -14,13 +15,13 @@ pub struct Grouped {
     pub stock_number: u32,
     pub switch_type: u16,
     pub yes_no: u16,
-    pub texts: [u8; 24],
+    pub texts: [u8; TEXT_ROOM],
 }
 
 // Group i of a body, from 0.
 #[no_mangle]
 pub extern "C" fn orizhgum_group(kind: u32, body: &[u8], i: u32) -> Grouped
-    ensures { λ r. ⌜ r ≡ groupAnswer (groupAsked kind (now (body .entry)) i) ⌝ }
+    ensures { λ r. ⌜ r ≡ groupAnswer (groupOf kind (now (body .entry)) i) ⌝ }
 {
     let r = record::group_of(kind, body, i);
     let a = r.answer;

@@ -1,16 +1,17 @@
 // The C interface: exported functions over the crates below. Answer 0 is the plain one, 1 to 99 are the refusals.
 ghost use mathlib.Core.Path.{_≡_};
-ghost use Rattle.frame.specs.Framing.{framing, headerWidth, bodyLimit};
+ghost use Rattle.frame.specs.Framing.{read, headerWidth, bodyLimit};
 ghost use Rattle.orizhgum.specs.Numbers.{frameAnswer};
 use frame::Framed;
 
 mod answers;
 pub mod arrivals;
-mod entry;
-mod groups;
+pub mod entry;
+pub mod groups;
+pub mod next;
 pub mod records;
 pub mod requested;
-mod written;
+pub mod written;
 
 // The frame that some bytes begin with: its type, the body's length and the length of the frame; zeros where it is refused.
 #[repr(C)]
@@ -23,7 +24,7 @@ pub struct FrameAnswer {
 
 #[no_mangle]
 pub extern "C" fn orizhgum_frame(bytes: &[u8]) -> FrameAnswer
-    ensures { λ r. ⌜ r ≡ frameAnswer (framing headerWidth bodyLimit (now (bytes .entry))) ⌝ }
+    ensures { λ r. ⌜ r ≡ frameAnswer (read headerWidth bodyLimit (now (bytes .entry))) ⌝ }
 {
     match frame::read(bytes) {
         Framed::Whole(f) => FrameAnswer {

@@ -1,7 +1,8 @@
 // The request: the frame that asks for a channel's first run, to the start of a lent output. The tracker's arrays stay as they are.
 ghost use mathlib.Core.Path.{_≡_};
-ghost use Rattle.tracker.specs.Request.{answering, leaving};
-ghost use Rattle.orizhgum.specs.Arrivals.{heldIn};
+ghost use Rattle.seats.specs.Arrays.{atEntry};
+ghost use Rattle.tracker.specs.Places.{made};
+ghost use Rattle.tracker.specs.Request.{request, requestLeaves};
 ghost use Rattle.orizhgum.specs.Requested.{requestAnswer};
 use crate::answers::NOTHING_MISSING;
 use crate::answers::PLAIN;
@@ -23,10 +24,10 @@ pub extern "C" fn orizhgum_request_in<'a>(
     channel: u16,
     out: &mut [u8],
 ) -> WriteAnswer
-    ensures { λ r. ⌜ r ≡ requestAnswer (answering (heldIn count (now (numbers .entry)) (now (highest .entry)) (now (ended .entry)) (now (counts .entry)) (now (first .entry)) (now (last .entry))) channel (now (out .entry))) ⌝ }
-    ensures { λ r. ⌜ now (out .exit) ≡ leaving (heldIn count (now (numbers .entry)) (now (highest .entry)) (now (ended .entry)) (now (counts .entry)) (now (first .entry)) (now (last .entry))) channel (now (out .entry)) ⌝ }
+    ensures { λ r. ⌜ r ≡ requestAnswer (request (made (atEntry count numbers highest ended counts first last)) channel (now (out .entry))) ⌝ }
+    ensures { λ r. ⌜ now (out .exit) ≡ requestLeaves (made (atEntry count numbers highest ended counts first last)) channel (now (out .entry)) ⌝ }
 {
-    match request_in(
+    let requested = request_in(
         count,
         numbers,
         highest,
@@ -36,7 +37,8 @@ pub extern "C" fn orizhgum_request_in<'a>(
         last,
         channel,
         out,
-    ) {
+    );
+    match requested {
         Requested::Written(n) => WriteAnswer {
             answer: PLAIN,
             written: n,
@@ -46,15 +48,15 @@ pub extern "C" fn orizhgum_request_in<'a>(
             written: 0,
         },
         Requested::Malformed => WriteAnswer {
-            answer: 10,
+            answer: requested.number(),
             written: 0,
         },
         Requested::NoSuchChannel => WriteAnswer {
-            answer: 7,
+            answer: requested.number(),
             written: 0,
         },
         Requested::OutputShort => WriteAnswer {
-            answer: 6,
+            answer: requested.number(),
             written: 0,
         },
     }

@@ -1,9 +1,9 @@
 // The writer: the frame of a record, its texts and its groups in wire layout, to the start of a lent output. A type that has no texts or no groups takes none.
 ghost use mathlib.Core.Path.{_≡_};
-ghost use Rattle.record.specs.Paper.{paperRecord};
+ghost use Rattle.record.specs.Paper.{meansRecord};
 ghost use Rattle.record.specs.declared.Record.the-variants as is;
 ghost use Rattle.writer.specs.Paper as writer_paper;
-ghost use Rattle.writer.specs.Write.{answering, leaving};
+ghost use Rattle.writer.specs.Write.{write, writeLeaves};
 ghost use Rattle.orizhgum.specs.Written.{writeAnswer};
 use crate::answers::PLAIN;
 use record::ChannelHeartbeat;
@@ -27,7 +27,7 @@ pub struct WriteAnswer {
 
 // The number of a writer's refusal.
 fn refusal_number(x: Refusal) -> u32
-    ensures { λ r. ⌜ r ≡ writer_paper.number x ⌝ }
+    ensures { λ r. ⌜ r ≡ writer_paper.writerRefusal x ⌝ }
 {
     match x {
         Refusal::NotItsLayout => 4,
@@ -38,7 +38,7 @@ fn refusal_number(x: Refusal) -> u32
 }
 
 fn answer_of(written: Written) -> WriteAnswer
-    ensures { λ r. ⌜ r ≡ writeAnswer (writer_paper.paper written) ⌝ }
+    ensures { λ r. ⌜ r ≡ writeAnswer (writer_paper.meansWritten written) ⌝ }
 {
     match written {
         Written::Whole(n) => WriteAnswer {
@@ -59,8 +59,8 @@ pub extern "C" fn orizhgum_write_order(
     groups: &[u8],
     out: &mut [u8],
 ) -> WriteAnswer
-    ensures { λ r. ⌜ r ≡ writeAnswer (answering (paperRecord (is.Order numbers)) (now (texts .entry)) (now (groups .entry)) (now (out .entry))) ⌝ }
-    ensures { λ r. ⌜ now (out .exit) ≡ leaving (paperRecord (is.Order numbers)) (now (texts .entry)) (now (groups .entry)) (now (out .entry)) ⌝ }
+    ensures { λ r. ⌜ r ≡ writeAnswer (write (meansRecord (is.Order numbers)) (now (texts .entry)) (now (groups .entry)) (now (out .entry))) ⌝ }
+    ensures { λ r. ⌜ now (out .exit) ≡ writeLeaves (meansRecord (is.Order numbers)) (now (texts .entry)) (now (groups .entry)) (now (out .entry)) ⌝ }
 {
     answer_of(writer::write_order(numbers, texts, groups, out))
 }
@@ -72,8 +72,8 @@ pub extern "C" fn orizhgum_write_trade(
     groups: &[u8],
     out: &mut [u8],
 ) -> WriteAnswer
-    ensures { λ r. ⌜ r ≡ writeAnswer (answering (paperRecord (is.Trade numbers)) (now (texts .entry)) (now (groups .entry)) (now (out .entry))) ⌝ }
-    ensures { λ r. ⌜ now (out .exit) ≡ leaving (paperRecord (is.Trade numbers)) (now (texts .entry)) (now (groups .entry)) (now (out .entry)) ⌝ }
+    ensures { λ r. ⌜ r ≡ writeAnswer (write (meansRecord (is.Trade numbers)) (now (texts .entry)) (now (groups .entry)) (now (out .entry))) ⌝ }
+    ensures { λ r. ⌜ now (out .exit) ≡ writeLeaves (meansRecord (is.Trade numbers)) (now (texts .entry)) (now (groups .entry)) (now (out .entry)) ⌝ }
 {
     answer_of(writer::write_trade(numbers, texts, groups, out))
 }
@@ -85,8 +85,8 @@ pub extern "C" fn orizhgum_write_channel_heartbeat(
     groups: &[u8],
     out: &mut [u8],
 ) -> WriteAnswer
-    ensures { λ r. ⌜ r ≡ writeAnswer (answering (paperRecord (is.ChannelHeartbeat numbers)) (now (texts .entry)) (now (groups .entry)) (now (out .entry))) ⌝ }
-    ensures { λ r. ⌜ now (out .exit) ≡ leaving (paperRecord (is.ChannelHeartbeat numbers)) (now (texts .entry)) (now (groups .entry)) (now (out .entry)) ⌝ }
+    ensures { λ r. ⌜ r ≡ writeAnswer (write (meansRecord (is.ChannelHeartbeat numbers)) (now (texts .entry)) (now (groups .entry)) (now (out .entry))) ⌝ }
+    ensures { λ r. ⌜ now (out .exit) ≡ writeLeaves (meansRecord (is.ChannelHeartbeat numbers)) (now (texts .entry)) (now (groups .entry)) (now (out .entry)) ⌝ }
 {
     answer_of(writer::write_channel_heartbeat(numbers, texts, groups, out))
 }
@@ -98,8 +98,8 @@ pub extern "C" fn orizhgum_write_resend(
     groups: &[u8],
     out: &mut [u8],
 ) -> WriteAnswer
-    ensures { λ r. ⌜ r ≡ writeAnswer (answering (paperRecord (is.Resend numbers)) (now (texts .entry)) (now (groups .entry)) (now (out .entry))) ⌝ }
-    ensures { λ r. ⌜ now (out .exit) ≡ leaving (paperRecord (is.Resend numbers)) (now (texts .entry)) (now (groups .entry)) (now (out .entry)) ⌝ }
+    ensures { λ r. ⌜ r ≡ writeAnswer (write (meansRecord (is.Resend numbers)) (now (texts .entry)) (now (groups .entry)) (now (out .entry))) ⌝ }
+    ensures { λ r. ⌜ now (out .exit) ≡ writeLeaves (meansRecord (is.Resend numbers)) (now (texts .entry)) (now (groups .entry)) (now (out .entry)) ⌝ }
 {
     answer_of(writer::write_resend(numbers, texts, groups, out))
 }
@@ -111,8 +111,8 @@ pub extern "C" fn orizhgum_write_snapshot(
     groups: &[u8],
     out: &mut [u8],
 ) -> WriteAnswer
-    ensures { λ r. ⌜ r ≡ writeAnswer (answering (paperRecord (is.Snapshot numbers)) (now (texts .entry)) (now (groups .entry)) (now (out .entry))) ⌝ }
-    ensures { λ r. ⌜ now (out .exit) ≡ leaving (paperRecord (is.Snapshot numbers)) (now (texts .entry)) (now (groups .entry)) (now (out .entry)) ⌝ }
+    ensures { λ r. ⌜ r ≡ writeAnswer (write (meansRecord (is.Snapshot numbers)) (now (texts .entry)) (now (groups .entry)) (now (out .entry))) ⌝ }
+    ensures { λ r. ⌜ now (out .exit) ≡ writeLeaves (meansRecord (is.Snapshot numbers)) (now (texts .entry)) (now (groups .entry)) (now (out .entry)) ⌝ }
 {
     answer_of(writer::write_snapshot(numbers, texts, groups, out))
 }
@@ -124,8 +124,8 @@ pub extern "C" fn orizhgum_write_index(
     groups: &[u8],
     out: &mut [u8],
 ) -> WriteAnswer
-    ensures { λ r. ⌜ r ≡ writeAnswer (answering (paperRecord (is.Index numbers)) (now (texts .entry)) (now (groups .entry)) (now (out .entry))) ⌝ }
-    ensures { λ r. ⌜ now (out .exit) ≡ leaving (paperRecord (is.Index numbers)) (now (texts .entry)) (now (groups .entry)) (now (out .entry)) ⌝ }
+    ensures { λ r. ⌜ r ≡ writeAnswer (write (meansRecord (is.Index numbers)) (now (texts .entry)) (now (groups .entry)) (now (out .entry))) ⌝ }
+    ensures { λ r. ⌜ now (out .exit) ≡ writeLeaves (meansRecord (is.Index numbers)) (now (texts .entry)) (now (groups .entry)) (now (out .entry)) ⌝ }
 {
     answer_of(writer::write_index(numbers, texts, groups, out))
 }
@@ -137,8 +137,8 @@ pub extern "C" fn orizhgum_write_volume_index(
     groups: &[u8],
     out: &mut [u8],
 ) -> WriteAnswer
-    ensures { λ r. ⌜ r ≡ writeAnswer (answering (paperRecord (is.VolumeIndex numbers)) (now (texts .entry)) (now (groups .entry)) (now (out .entry))) ⌝ }
-    ensures { λ r. ⌜ now (out .exit) ≡ leaving (paperRecord (is.VolumeIndex numbers)) (now (texts .entry)) (now (groups .entry)) (now (out .entry)) ⌝ }
+    ensures { λ r. ⌜ r ≡ writeAnswer (write (meansRecord (is.VolumeIndex numbers)) (now (texts .entry)) (now (groups .entry)) (now (out .entry))) ⌝ }
+    ensures { λ r. ⌜ now (out .exit) ≡ writeLeaves (meansRecord (is.VolumeIndex numbers)) (now (texts .entry)) (now (groups .entry)) (now (out .entry)) ⌝ }
 {
     answer_of(writer::write_volume_index(numbers, texts, groups, out))
 }
@@ -150,8 +150,8 @@ pub extern "C" fn orizhgum_write_statistics(
     groups: &[u8],
     out: &mut [u8],
 ) -> WriteAnswer
-    ensures { λ r. ⌜ r ≡ writeAnswer (answering (paperRecord (is.Statistics numbers)) (now (texts .entry)) (now (groups .entry)) (now (out .entry))) ⌝ }
-    ensures { λ r. ⌜ now (out .exit) ≡ leaving (paperRecord (is.Statistics numbers)) (now (texts .entry)) (now (groups .entry)) (now (out .entry)) ⌝ }
+    ensures { λ r. ⌜ r ≡ writeAnswer (write (meansRecord (is.Statistics numbers)) (now (texts .entry)) (now (groups .entry)) (now (out .entry))) ⌝ }
+    ensures { λ r. ⌜ now (out .exit) ≡ writeLeaves (meansRecord (is.Statistics numbers)) (now (texts .entry)) (now (groups .entry)) (now (out .entry)) ⌝ }
 {
     answer_of(writer::write_statistics(numbers, texts, groups, out))
 }
@@ -163,8 +163,8 @@ pub extern "C" fn orizhgum_write_security_status(
     groups: &[u8],
     out: &mut [u8],
 ) -> WriteAnswer
-    ensures { λ r. ⌜ r ≡ writeAnswer (answering (paperRecord (is.SecurityStatus numbers)) (now (texts .entry)) (now (groups .entry)) (now (out .entry))) ⌝ }
-    ensures { λ r. ⌜ now (out .exit) ≡ leaving (paperRecord (is.SecurityStatus numbers)) (now (texts .entry)) (now (groups .entry)) (now (out .entry)) ⌝ }
+    ensures { λ r. ⌜ r ≡ writeAnswer (write (meansRecord (is.SecurityStatus numbers)) (now (texts .entry)) (now (groups .entry)) (now (out .entry))) ⌝ }
+    ensures { λ r. ⌜ now (out .exit) ≡ writeLeaves (meansRecord (is.SecurityStatus numbers)) (now (texts .entry)) (now (groups .entry)) (now (out .entry)) ⌝ }
 {
     answer_of(writer::write_security_status(numbers, texts, groups, out))
 }
@@ -175,8 +175,8 @@ pub extern "C" fn orizhgum_write_heartbeat(
     groups: &[u8],
     out: &mut [u8],
 ) -> WriteAnswer
-    ensures { λ r. ⌜ r ≡ writeAnswer (answering (paperRecord is.Heartbeat) (now (texts .entry)) (now (groups .entry)) (now (out .entry))) ⌝ }
-    ensures { λ r. ⌜ now (out .exit) ≡ leaving (paperRecord is.Heartbeat) (now (texts .entry)) (now (groups .entry)) (now (out .entry)) ⌝ }
+    ensures { λ r. ⌜ r ≡ writeAnswer (write (meansRecord is.Heartbeat) (now (texts .entry)) (now (groups .entry)) (now (out .entry))) ⌝ }
+    ensures { λ r. ⌜ now (out .exit) ≡ writeLeaves (meansRecord is.Heartbeat) (now (texts .entry)) (now (groups .entry)) (now (out .entry)) ⌝ }
 {
     answer_of(writer::write_heartbeat(texts, groups, out))
 }

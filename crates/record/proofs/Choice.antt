@@ -1,17 +1,17 @@
 -- Which layout a type number chooses, and what that says of each call.
 -- Assumes nothing.
 use Prim.Native.Nat.{ℕ}
-use mathlib.Core.Path.{_≡_, refl, sym, _∙_}
+use mathlib.Core.Path.{_≡_, refl}
 use mathlib.Core.Bool.{Bool, true, false, cond}
 use mathlib.Core.List.{List, [], _∷_}
 use native.Mathlib.Omega.{arith}
 use borrow.Author.Tests.{ne-eqb, eqb-true}
 use lib.Dec.{eqb}
-use Rattle.wire.specs.Answer.{Answer, accepted, refused}
-use Rattle.layout.specs.Layout.{Message, heartbeat, channelHeartbeat, resend, statistics, securityStatus, snapshot, index, volumeIndex, order, trade, typeNumber, Listed, listed, unlisted, chosen, messages, named}
-use Rattle.layout.specs.Group.{judged}
-use Rattle.record.specs.Asked.{told, judging}
-use Rattle.record.specs.Record.{unknown, readAs, reading, isListed}
+use Rattle.wire.specs.Answer.{accepted}
+use Rattle.layout.specs.Layout.{Message, heartbeat, channelHeartbeat, resend, statistics, securityStatus, snapshot, index, volumeIndex, order, trade, typeNumber, listed, unlisted, chosen, messages, named}
+use Rattle.layout.specs.Group.{judgeBody}
+use Rattle.record.specs.Asked.{withTexts, judge}
+use Rattle.record.specs.Record.{unknown, readAs, readBody, isListed}
 
 -- the number of a listed type chooses it
 pub named-as : (m : Message) {t : ℕ} → t ≡ typeNumber m → named t ≡ listed m
@@ -68,18 +68,18 @@ named-none {t} n =
 -- ---- by the type, what is read, judged and listed
 
 module _ (s : List ℕ) where
-  pub reads-as : (m : Message) {t : ℕ} → t ≡ typeNumber m → readAs m s ≡ reading t s
-  unfolding reading
+  pub reads-as : (m : Message) {t : ℕ} → t ≡ typeNumber m → readAs m s ≡ readBody t s
+  unfolding readBody
   reads-as m e = rw (named-as m e)
 
-  pub reads-none : {t : ℕ} → None t → told (accepted (unknown t)) [] ≡ reading t s
-  unfolding reading
+  pub reads-none : {t : ℕ} → None t → withTexts (accepted (unknown t)) [] ≡ readBody t s
+  unfolding readBody
   reads-none n = rw (named-none n)
 
-  pub judges-as : (m : Message) {t : ℕ} → t ≡ typeNumber m → judged m s ≡ judging t s
+  pub judges-as : (m : Message) {t : ℕ} → t ≡ typeNumber m → judgeBody m s ≡ judge t s
   judges-as m e = rw (named-as m e)
 
-  pub judges-none : {t : ℕ} → None t → accepted tt ≡ judging t s
+  pub judges-none : {t : ℕ} → None t → accepted tt ≡ judge t s
   judges-none n = rw (named-none n)
 
 pub lists-as : (m : Message) {t : ℕ} → t ≡ typeNumber m → true ≡ isListed (named t)

@@ -2,11 +2,11 @@
 -- Assumes nothing.
 use Prim.Native.Nat.{ℕ, zero, suc, _+_, _-_, _≤_}
 use mathlib.Core.Path.{_≡_, refl, ap, sym, _∙_}
-use mathlib.Core.List.{List, [], _∷_, _++_, append-assoc, append-nil}
+use mathlib.Core.List.{List, _++_, append-assoc, append-nil}
 use native.Mathlib.Omega.{arith}
-use lib.ListN.{length, take, drop, length-append}
+use lib.ListN.{length, take, drop}
 use lib.Seq.{take-add, drop-drop}
-use Rattle.wire.specs.Bytes.{part, splice, placed}
+use Rattle.wire.specs.Bytes.{part, splice, putAt}
 use Rattle.wire.proofs.Place.{placed-fits, length-splice, splice-more}
 use Rattle.layout.specs.Layout.{fields, texts, resend, securityStatus, snapshot, index, volumeIndex, order, trade, streams}
 use Rattle.record.specs.Asked.{zeros, filled}
@@ -78,7 +78,7 @@ filled-as t =
     rw e (ap (λ (l : List ℕ). t ++ l) (drop-zeros (length t) 24))
 
 -- two texts, one behind the other
-pub both-placed : (a b : List ℕ) → length a + length b ≤ 24 → placed (placed (zeros 24) 0 a) (length a) b ≡ filled (a ++ b)
+pub both-placed : (a b : List ℕ) → length a + length b ≤ 24 → putAt (putAt (zeros 24) 0 a) (length a) b ≡ filled (a ++ b)
 both-placed a b h =
     let z : length (zeros 24) ≡ 24 = length-zeros 24 in
     let e : length a ≡ 0 + length a = omega arith in

@@ -1,59 +1,58 @@
 -- Groups by position, and the groups of a body as a part of it.
 -- Assumes nothing.
 use Prim.Native.Nat.{ℕ, _+_, _-_, _≤_, _<_}
-use mathlib.Core.Path.{_≡_, refl, ap, sym, _∙_}
-use mathlib.Core.Bool.{true, false}
+use mathlib.Core.Path.{_≡_, refl, ap, _∙_}
 use mathlib.Core.List.{List, []}
 use native.Mathlib.Omega.{arith}
 use borrow.Author.Tests.{lt-ltb, le-ltb}
 use lib.IntN.{ℤ}
 use lib.ListN.{length}
-use Rattle.wire.specs.Answer.{Answer, accepted, refused}
+use Rattle.wire.specs.Answer.{accepted, refused}
 use Rattle.wire.specs.Bytes.{beAt, part}
 use Rattle.layout.specs.Layout.{Message, heartbeat, channelHeartbeat, resend, statistics, securityStatus, snapshot, index, volumeIndex, order, trade, typeNumber, Listed, listed, unlisted, named, Group, groups, behind, size, values, texts}
-use Rattle.layout.specs.Group.{fit, place, group, start, count, judged}
+use Rattle.layout.specs.Group.{groupOffset, group, groupsStart, count, judgeBody}
 use Rattle.layout.proofs.Walk.{has-all, fields-there}
-use Rattle.record.specs.Asked.{told, filled, found, noSuchEntry, judgedAs, judging}
-use Rattle.record.specs.Record.{groupAs, groupListed, groupAsked, groupsAs, groupsListed, groupsPart}
+use Rattle.record.specs.Asked.{withTexts, filled, found, noSuchEntry, judgeListed, judge}
+use Rattle.record.specs.Record.{groupAs, groupListed, groupOf, groupsAs, groupsListed, groupsOf}
 use Rattle.record.proofs.Tell.{with-texts}
 use Rattle.record.proofs.Choice.{named-as, named-back, No}
 
 -- ---- group i of a type that has groups
 
-module _ (m : Message) (g : Group) (s : List ℕ) (i : ℕ) (is : behind m ≡ groups g) (good : judged m s ≡ accepted tt) where
-  pub group-found : i < beAt s (start m - 4) 4 → {at : ℕ} → place g s (start m) i ≡ at → {vs : List ℤ} → vs ≡ values (g .fields) s at → {t : List ℕ} → t ≡ texts (g .fields) s at → {b : List ℕ} {n : ℕ} → b ≡ filled t → n ≡ length t → with-texts (accepted (found vs)) b n ≡ groupAs m s i
+module _ (m : Message) (g : Group) (s : List ℕ) (i : ℕ) (is : behind m ≡ groups g) (good : judgeBody m s ≡ accepted tt) where
+  pub group-found : i < beAt s (groupsStart m - 4) 4 → {at : ℕ} → groupOffset g s (groupsStart m) i ≡ at → {vs : List ℤ} → vs ≡ values (g .fields) s at → {t : List ℕ} → t ≡ texts (g .fields) s at → {b : List ℕ} {n : ℕ} → b ≡ filled t → n ≡ length t → with-texts (accepted (found vs)) b n ≡ groupAs m s i
   unfolding groupAs
   group-found h p v t b n =
       rw (good, is, lt-ltb _ _ h, p)
       (λ i. record { answer = accepted (found (v i)); texts = (b ∙ ap filled t) i; used = (n ∙ ap length t) i })
 
-  pub group-none : beAt s (start m - 4) 4 ≤ i → told (accepted noSuchEntry) [] ≡ groupAs m s i
+  pub group-none : beAt s (groupsStart m - 4) 4 ≤ i → withTexts (accepted noSuchEntry) [] ≡ groupAs m s i
   unfolding groupAs
   group-none h = rw (good, is, le-ltb _ _ h)
 
-  pub group-there : i < beAt s (start m - 4) 4 → place g s (start m) i + size (g .fields) ≤ length s
+  pub group-there : i < beAt s (groupsStart m - 4) 4 → groupOffset g s (groupsStart m) i + size (g .fields) ≤ length s
   group-there h =
       let f = has-all m s good .groups in
-      fields-there g s (start m) i (beAt s (start m - 4) 4) h (rw is at f)
+      fields-there g s (groupsStart m) i (beAt s (groupsStart m - 4) 4) h (rw is at f)
 
 -- ---- by the type
 
 module _ (t : ℕ) (s : List ℕ) where
-  pub group-as : (m : Message) (i : ℕ) → t ≡ typeNumber m → groupAs m s i ≡ groupAsked t s i
-  unfolding groupAsked
+  pub group-as : (m : Message) (i : ℕ) → t ≡ typeNumber m → groupAs m s i ≡ groupOf t s i
+  unfolding groupOf
   group-as m i e = rw (named-as m e)
 
-  refused-by : (l : Listed) (i : ℕ) {n : ℕ} {vs : List ℕ} → judgedAs l s ≡ refused n vs → told (refused n vs) [] ≡ groupListed l s i
+  refused-by : (l : Listed) (i : ℕ) {n : ℕ} {vs : List ℕ} → judgeListed l s ≡ refused n vs → withTexts (refused n vs) [] ≡ groupListed l s i
   unfolding groupAs
   refused-by (listed m) i e = rw e
   refused-by unlisted i e = let z : _≡_ {A = ℕ} 0 1 = cc in absurd (omega arith)
 
-  pub group-refused : (i : ℕ) {n : ℕ} {vs : List ℕ} → judging t s ≡ refused n vs → told (refused n vs) [] ≡ groupAsked t s i
-  unfolding groupAsked
+  pub group-refused : (i : ℕ) {n : ℕ} {vs : List ℕ} → judge t s ≡ refused n vs → withTexts (refused n vs) [] ≡ groupOf t s i
+  unfolding groupOf
   group-refused i e = refused-by (named t) i e
 
   -- a type without groups
-  rest-by : (l : Listed) (i : ℕ) → named t ≡ l → No statistics t → No securityStatus t → judgedAs l s ≡ accepted tt → told (accepted noSuchEntry) [] ≡ groupListed l s i
+  rest-by : (l : Listed) (i : ℕ) → named t ≡ l → No statistics t → No securityStatus t → judgeListed l s ≡ accepted tt → withTexts (accepted noSuchEntry) [] ≡ groupListed l s i
   unfolding groupAs
   rest-by (listed heartbeat) i e a b g = rw g
   rest-by (listed channelHeartbeat) i e a b g = rw g
@@ -67,27 +66,27 @@ module _ (t : ℕ) (s : List ℕ) where
   rest-by (listed trade) i e a b g = rw g
   rest-by unlisted i e a b g = refl
 
-  pub group-rest : (i : ℕ) → No statistics t → No securityStatus t → judging t s ≡ accepted tt → told (accepted noSuchEntry) [] ≡ groupAsked t s i
-  unfolding groupAsked
+  pub group-rest : (i : ℕ) → No statistics t → No securityStatus t → judge t s ≡ accepted tt → withTexts (accepted noSuchEntry) [] ≡ groupOf t s i
+  unfolding groupOf
   group-rest i a b g = rest-by (named t) i refl a b g
 
   -- ---- all groups as a part
 
-  pub groups-as : (m : Message) → t ≡ typeNumber m → judged m s ≡ accepted tt → part (start m) (place (group m) s (start m) (count m s)) s ≡ groupsPart t s
-  unfolding groupsPart groupsAs
+  pub groups-as : (m : Message) → t ≡ typeNumber m → judgeBody m s ≡ accepted tt → part (groupsStart m) (groupOffset (group m) s (groupsStart m) (count m s)) s ≡ groupsOf t s
+  unfolding groupsOf groupsAs
   groups-as m e g = rw (named-as m e, g)
 
-  none-by : (l : Listed) {n : ℕ} {vs : List ℕ} → judgedAs l s ≡ refused n vs → [] ≡ groupsListed l s
+  none-by : (l : Listed) {n : ℕ} {vs : List ℕ} → judgeListed l s ≡ refused n vs → [] ≡ groupsListed l s
   unfolding groupsAs
   none-by (listed m) e = rw e
   none-by unlisted e = refl
 
-  pub groups-refused : {n : ℕ} {vs : List ℕ} → judging t s ≡ refused n vs → [] ≡ groupsPart t s
-  unfolding groupsPart
+  pub groups-refused : {n : ℕ} {vs : List ℕ} → judge t s ≡ refused n vs → [] ≡ groupsOf t s
+  unfolding groupsOf
   groups-refused e = none-by (named t) e
 
-  empty-by : (l : Listed) → named t ≡ l → No statistics t → No securityStatus t → No snapshot t → No index t → judgedAs l s ≡ accepted tt → [] ≡ groupsListed l s
-  unfolding groupsAs place size
+  empty-by : (l : Listed) → named t ≡ l → No statistics t → No securityStatus t → No snapshot t → No index t → judgeListed l s ≡ accepted tt → [] ≡ groupsListed l s
+  unfolding groupsAs groupOffset size
   empty-by (listed heartbeat) e a b c d g = rw g
   empty-by (listed channelHeartbeat) e a b c d g = rw g
   empty-by (listed resend) e a b c d g = rw g
@@ -100,6 +99,6 @@ module _ (t : ℕ) (s : List ℕ) where
   empty-by (listed trade) e a b c d g = rw g
   empty-by unlisted e a b c d g = refl
 
-  pub groups-rest : No statistics t → No securityStatus t → No snapshot t → No index t → judging t s ≡ accepted tt → [] ≡ groupsPart t s
-  unfolding groupsPart
+  pub groups-rest : No statistics t → No securityStatus t → No snapshot t → No index t → judge t s ≡ accepted tt → [] ≡ groupsOf t s
+  unfolding groupsOf
   groups-rest a b c d g = empty-by (named t) refl a b c d g

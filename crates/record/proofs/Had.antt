@@ -1,41 +1,35 @@
--- Bytes that have the fields of a listed type: their numbers and texts stand in the part that the fields take.
+-- Bytes that have the fields of a listed type; and numbers in a part of some bytes.
 -- Assumes nothing.
-use Prim.Native.Nat.{ℕ, _+_, _-_, _<_, _≤_}
-use mathlib.Core.Path.{_≡_, refl, ap, sym, _∙_}
-use mathlib.Core.List.{List, [], _∷_, _++_}
+use Prim.Native.Nat.{ℕ, _+_, _<_, _≤_}
+use mathlib.Core.Path.{_≡_, refl}
+use mathlib.Core.List.{List, [], _∷_}
 use native.Mathlib.Omega.{arith}
 use borrow.Author.Tests.{le-leb, lt-leb}
-use lib.IntN.{ℤ}
 use lib.ListN.{length, take, drop}
 use Rattle.wire.specs.Bytes.{beAt}
 use Rattle.wire.proofs.Be.{beAt-part}
-use Rattle.layout.specs.Kind.{Kind, Form, unsigned, signed, written, form, width, bytes, characters}
-use Rattle.layout.specs.Layout.{Message, fields, size, valueAt, values}
-use Rattle.layout.specs.Group.{start}
-use Rattle.record.specs.Record.{numbersAs, had}
+use Rattle.layout.specs.Kind.{Kind, Form, unsigned, signed, written, form, width, bytes}
+use Rattle.layout.specs.Layout.{Message, size, valueAt, values}
+use Rattle.layout.specs.Group.{groupsStart}
+use Rattle.record.specs.Record.{had}
 
 module _ (m : Message) (s : List ℕ) where
-  pub had-none : length s < start m → had m s ≡ []
+  pub had-none : length s < groupsStart m → had m s ≡ []
   unfolding had
-  had-none h = rw (lt-leb (start m) (length s) h)
+  had-none h = rw (lt-leb (groupsStart m) (length s) h)
 
-  pub had-all : start m ≤ length s → had m s ≡ s
+  pub had-all : groupsStart m ≤ length s → had m s ≡ s
   unfolding had
-  had-all h = rw (le-leb (start m) (length s) h)
+  had-all h = rw (le-leb (groupsStart m) (length s) h)
 
 value-part : (f : Form) (s : List ℕ) (p w i : ℕ) → i + bytes f ≤ w → valueAt f (take w (drop p s)) i ≡ valueAt f s (p + i)
 value-part (unsigned n) s p w i h = rw (beAt-part s p w i n h)
 value-part signed s p w i h = rw (beAt-part s p w i 8 h)
 value-part (written t) s p w i h = refl
 
-values-part : (l : List Kind) (s : List ℕ) (p w i : ℕ) → i + size l ≤ w → values l (take w (drop p s)) i ≡ values l s (p + i)
+pub values-part : (l : List Kind) (s : List ℕ) (p w i : ℕ) → i + size l ≤ w → values l (take w (drop p s)) i ≡ values l s (p + i)
 unfolding values size
 values-part [] s p w i h = refl
 values-part (k ∷ ks) s p w i h =
     let e : p + (i + width k) ≡ p + i + width k = omega arith in
     rw (value-part (form k) s p w i (omega arith), values-part ks s p w (i + width k) (omega arith), e)
-
--- the numbers of the part that the fields take
-pub numbers-head : (m : Message) (s : List ℕ) (w : ℕ) → start m ≡ w → w ≤ length s → numbersAs m (take w (drop 0 s)) ≡ numbersAs m (had m s)
-numbers-head m s w e h =
-    rw (had-all m s (omega arith), values-part (fields m) s 0 w 0 (omega arith))

@@ -2,6 +2,5 @@ pub mod Choice
 pub mod Gathered
 pub mod Grouped
 pub mod Had
-pub mod Names
 pub mod Tell
 pub mod Unique

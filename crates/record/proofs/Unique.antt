@@ -13,9 +13,9 @@ use Rattle.frame.specs.declared.Refusal as frame-refusal
 use Rattle.layout.specs.Layout.{heartbeat, channelHeartbeat, resend, statistics, securityStatus, snapshot, index, volumeIndex, order, trade}
 use Rattle.layout.specs.declared.group.Refusal.the-variants.{NotItsLayout, OutOfRange}
 use Rattle.layout.proofs.Unique.{code-refusal, back-refusal}
-use Rattle.record.specs.Asked.{Told, Asked, found, noSuchEntry}
+use Rattle.record.specs.Asked.{WithTexts, Asked, found, noSuchEntry}
 use Rattle.record.specs.Record as record-of
-use Rattle.record.specs.Paper.{paperRecord, paperAnswer, paper, frameAnswer, paperFrame, groupAnswer, paperGroup}
+use Rattle.record.specs.Paper.{meansRecord, meansAnswer, meansReading, meansFrameAnswer, meansFrameReading, meansGroupAnswer, meansGroupReading}
 use Rattle.record.specs.declared.Record.{Record}
 use Rattle.record.specs.declared.Record.the-variants.{Heartbeat, ChannelHeartbeat, Resend, Statistics, SecurityStatus, Snapshot, Index, VolumeIndex, Order, Trade, Unknown}
 use Rattle.record.specs.declared.common.Common.{Common}
@@ -97,7 +97,7 @@ code-record (record-of.known trade vs) =
     })
 code-record (record-of.unknown t) = Unknown t
 
-back-record : (r : Record) → code-record (paperRecord r) ≡ r
+back-record : (r : Record) → code-record (meansRecord r) ≡ r
 unfolding code-record common n z
 back-record Heartbeat = refl
 back-record (ChannelHeartbeat r) = refl
@@ -111,36 +111,36 @@ back-record (Order r) = refl
 back-record (Trade r) = refl
 back-record (Unknown t) = refl
 
-pub one-record : (x y : Record) → paperRecord x ≡ paperRecord y → x ≡ y
+pub one-record : (x y : Record) → meansRecord x ≡ meansRecord y → x ≡ y
 one-record x y e = sym (back-record x) ∙ ap code-record e ∙ back-record y
 
 -- ---- the numbers of one type's bytes
 
-pub one-order : (a b : code-order.Order) → paperRecord (Order a) ≡ paperRecord (Order b) → a ≡ b
+pub one-order : (a b : code-order.Order) → meansRecord (Order a) ≡ meansRecord (Order b) → a ≡ b
 one-order a b e = cc (one-record (Order a) (Order b) e)
 
-pub one-trade : (a b : code-trade.Trade) → paperRecord (Trade a) ≡ paperRecord (Trade b) → a ≡ b
+pub one-trade : (a b : code-trade.Trade) → meansRecord (Trade a) ≡ meansRecord (Trade b) → a ≡ b
 one-trade a b e = cc (one-record (Trade a) (Trade b) e)
 
-pub one-channel-heartbeat : (a b : code-channel-heartbeat.ChannelHeartbeat) → paperRecord (ChannelHeartbeat a) ≡ paperRecord (ChannelHeartbeat b) → a ≡ b
+pub one-channel-heartbeat : (a b : code-channel-heartbeat.ChannelHeartbeat) → meansRecord (ChannelHeartbeat a) ≡ meansRecord (ChannelHeartbeat b) → a ≡ b
 one-channel-heartbeat a b e = cc (one-record (ChannelHeartbeat a) (ChannelHeartbeat b) e)
 
-pub one-resend : (a b : code-resend.Resend) → paperRecord (Resend a) ≡ paperRecord (Resend b) → a ≡ b
+pub one-resend : (a b : code-resend.Resend) → meansRecord (Resend a) ≡ meansRecord (Resend b) → a ≡ b
 one-resend a b e = cc (one-record (Resend a) (Resend b) e)
 
-pub one-snapshot : (a b : code-snapshot.Snapshot) → paperRecord (Snapshot a) ≡ paperRecord (Snapshot b) → a ≡ b
+pub one-snapshot : (a b : code-snapshot.Snapshot) → meansRecord (Snapshot a) ≡ meansRecord (Snapshot b) → a ≡ b
 one-snapshot a b e = cc (one-record (Snapshot a) (Snapshot b) e)
 
-pub one-index : (a b : code-index.Index) → paperRecord (Index a) ≡ paperRecord (Index b) → a ≡ b
+pub one-index : (a b : code-index.Index) → meansRecord (Index a) ≡ meansRecord (Index b) → a ≡ b
 one-index a b e = cc (one-record (Index a) (Index b) e)
 
-pub one-volume-index : (a b : code-volume-index.VolumeIndex) → paperRecord (VolumeIndex a) ≡ paperRecord (VolumeIndex b) → a ≡ b
+pub one-volume-index : (a b : code-volume-index.VolumeIndex) → meansRecord (VolumeIndex a) ≡ meansRecord (VolumeIndex b) → a ≡ b
 one-volume-index a b e = cc (one-record (VolumeIndex a) (VolumeIndex b) e)
 
-pub one-statistics : (a b : code-statistics.Statistics) → paperRecord (Statistics a) ≡ paperRecord (Statistics b) → a ≡ b
+pub one-statistics : (a b : code-statistics.Statistics) → meansRecord (Statistics a) ≡ meansRecord (Statistics b) → a ≡ b
 one-statistics a b e = cc (one-record (Statistics a) (Statistics b) e)
 
-pub one-security-status : (a b : code-security-status.SecurityStatus) → paperRecord (SecurityStatus a) ≡ paperRecord (SecurityStatus b) → a ≡ b
+pub one-security-status : (a b : code-security-status.SecurityStatus) → meansRecord (SecurityStatus a) ≡ meansRecord (SecurityStatus b) → a ≡ b
 one-security-status a b e = cc (one-record (SecurityStatus a) (SecurityStatus b) e)
 
 -- ---- a body
@@ -149,14 +149,14 @@ code-answer-of : Answer record-of.Reading → code-answer.Answer
 code-answer-of (accepted r) = code-answer.the-variants.Read (code-record r)
 code-answer-of (refused x vs) = code-answer.the-variants.Refused (code-refusal x)
 
-back-answer : (a : code-answer.Answer) → code-answer-of (paperAnswer a) ≡ a
+back-answer : (a : code-answer.Answer) → code-answer-of (meansAnswer a) ≡ a
 unfolding code-answer-of
 back-answer (code-answer.the-variants.Read r) = ap code-answer.the-variants.Read (back-record r)
 back-answer (code-answer.the-variants.Refused x) = ap code-answer.the-variants.Refused (back-refusal x)
 
-pub one-reading : (a b : code-reading.Reading) → paper a ≡ paper b → a ≡ b
+pub one-reading : (a b : code-reading.Reading) → meansReading a ≡ meansReading b → a ≡ b
 one-reading a b e =
-    let p = sym (back-answer (a .answer)) ∙ ap (λ (t : Told record-of.Reading). code-answer-of (t .answer)) e ∙ back-answer (b .answer) in
+    let p = sym (back-answer (a .answer)) ∙ ap (λ (t : WithTexts record-of.Reading). code-answer-of (t .answer)) e ∙ back-answer (b .answer) in
     λ i. record { answer = p i; texts = record { bytes = e i .texts; length = e i .used } }
 
 -- ---- a frame
@@ -172,7 +172,7 @@ code-frame-of : Answer record-of.Reading → frame-answer.FrameAnswer
 code-frame-of (accepted r) = frame-answer.the-variants.Read (code-record r)
 code-frame-of (refused x vs) = code-frame-refusal x
 
-back-frame : (a : frame-answer.FrameAnswer) → code-frame-of (frameAnswer a) ≡ a
+back-frame : (a : frame-answer.FrameAnswer) → code-frame-of (meansFrameAnswer a) ≡ a
 unfolding code-frame-of code-frame-refusal
 back-frame (frame-answer.the-variants.Read r) = ap frame-answer.the-variants.Read (back-record r)
 back-frame (frame-answer.the-variants.Frame frame-refusal.the-variants.TooShort) = refl
@@ -181,9 +181,9 @@ back-frame (frame-answer.the-variants.Frame frame-refusal.the-variants.WrongSum)
 back-frame (frame-answer.the-variants.Body NotItsLayout) = refl
 back-frame (frame-answer.the-variants.Body OutOfRange) = refl
 
-pub one-frame-reading : (a b : frame-reading.FrameReading) → paperFrame a ≡ paperFrame b → a ≡ b
+pub one-frame-reading : (a b : frame-reading.FrameReading) → meansFrameReading a ≡ meansFrameReading b → a ≡ b
 one-frame-reading a b e =
-    let p = sym (back-frame (a .answer)) ∙ ap (λ (t : Told record-of.Reading). code-frame-of (t .answer)) e ∙ back-frame (b .answer) in
+    let p = sym (back-frame (a .answer)) ∙ ap (λ (t : WithTexts record-of.Reading). code-frame-of (t .answer)) e ∙ back-frame (b .answer) in
     λ i. record { answer = p i; texts = record { bytes = e i .texts; length = e i .used } }
 
 -- ---- a group
@@ -199,14 +199,14 @@ code-group-of (accepted (found vs)) = code-group-values vs
 code-group-of (accepted noSuchEntry) = code-group.the-variants.NoSuchEntry
 code-group-of (refused x vs) = code-group.the-variants.Refused (code-refusal x)
 
-back-group : (a : code-group.GroupAnswer) → code-group-of (groupAnswer a) ≡ a
+back-group : (a : code-group.GroupAnswer) → code-group-of (meansGroupAnswer a) ≡ a
 unfolding code-group-of code-group-values
 back-group (code-group.the-variants.Stream r) = refl
 back-group (code-group.the-variants.Switch r) = refl
 back-group code-group.the-variants.NoSuchEntry = refl
 back-group (code-group.the-variants.Refused x) = ap code-group.the-variants.Refused (back-refusal x)
 
-pub one-group-reading : (a b : group-reading.GroupReading) → paperGroup a ≡ paperGroup b → a ≡ b
+pub one-group-reading : (a b : group-reading.GroupReading) → meansGroupReading a ≡ meansGroupReading b → a ≡ b
 one-group-reading a b e =
-    let p = sym (back-group (a .answer)) ∙ ap (λ (t : Told (Asked (List ℤ))). code-group-of (t .answer)) e ∙ back-group (b .answer) in
+    let p = sym (back-group (a .answer)) ∙ ap (λ (t : WithTexts (Asked (List ℤ))). code-group-of (t .answer)) e ∙ back-group (b .answer) in
     λ i. record { answer = p i; texts = record { bytes = e i .texts; length = e i .used } }

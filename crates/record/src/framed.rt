@@ -1,7 +1,7 @@
 // The record of a frame's bytes.
 ghost use mathlib.Core.Path.{_≡_};
-ghost use Rattle.record.specs.Record.{frameReading};
-ghost use Rattle.record.specs.Paper.{paperFrame};
+ghost use Rattle.record.specs.Record.{readFrame};
+ghost use Rattle.record.specs.Paper.{meansFrameReading};
 use crate::Answer;
 use crate::Record;
 use crate::read;
@@ -24,9 +24,9 @@ pub struct FrameReading {
     pub texts: Texts,
 }
 
-// The record of the frame that the bytes begin with: the part from place 8 to 8+L goes on to the record reader.
+// The record of the frame that the bytes begin with: the body, behind the header, goes on to the record reader.
 pub fn read_frame(s: &[u8]) -> FrameReading
-    ensures { λ r. ⌜ paperFrame r ≡ frameReading (now (s .entry)) ⌝ }
+    ensures { λ r. ⌜ meansFrameReading r ≡ readFrame (now (s .entry)) ⌝ }
 {
     match frame::read(s) {
         Framed::Whole(f) => {

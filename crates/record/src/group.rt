@@ -6,11 +6,12 @@ ghost use Prim.Native.Nat.{_-_, _≤_};
 ghost use lib.ListN.{length};
 ghost use Rattle.wire.specs.Answer.{accepted, refused};
 ghost use Rattle.wire.specs.Bytes.{beAt, part};
-ghost use Rattle.layout.specs.Group.{fit, place};
+ghost use Rattle.layout.specs.Kind as kind;
+ghost use Rattle.layout.specs.Group.{fit, groupOffset};
 ghost use Rattle.layout.specs.Paper as layout_paper;
-ghost use Rattle.record.specs.Asked.{told, noSuchEntry};
-ghost use Rattle.record.specs.Record.{groupAsked, groupsPart};
-ghost use Rattle.record.specs.Paper.{paperGroup};
+ghost use Rattle.record.specs.Asked.{withTexts, noSuchEntry};
+ghost use Rattle.record.specs.Record.{groupOf, groupsOf};
+ghost use Rattle.record.specs.Paper.{meansGroupReading};
 use crate::Record;
 use crate::judge;
 use crate::security_status::Switch;
@@ -22,6 +23,11 @@ use crate::texts::no_texts;
 use layout::Groups;
 use layout::Refusal;
 use layout::Verdict;
+use layout::index;
+use layout::security_status;
+use layout::snapshot;
+use layout::statistics;
+use layout::width;
 
 // Group i of a 390090 or a 390013.
 pub enum GroupAnswer {
@@ -38,7 +44,7 @@ pub struct GroupReading {
 }
 
 pub(crate) fn no_group() -> GroupReading
-    ensures { λ r. ⌜ paperGroup r ≡ told (accepted noSuchEntry) [] ⌝ }
+    ensures { λ r. ⌜ meansGroupReading r ≡ withTexts (accepted noSuchEntry) [] ⌝ }
 {
     GroupReading {
         answer: GroupAnswer::NoSuchEntry,
@@ -47,7 +53,7 @@ pub(crate) fn no_group() -> GroupReading
 }
 
 fn refused_group(x: Refusal) -> GroupReading
-    ensures { λ r. ⌜ paperGroup r ≡ told (refused (layout_paper.refusal x) []) [] ⌝ }
+    ensures { λ r. ⌜ meansGroupReading r ≡ withTexts (refused (layout_paper.bodyRefusal x) []) [] ⌝ }
 {
     GroupReading {
         answer: GroupAnswer::Refused(x),
@@ -57,7 +63,7 @@ fn refused_group(x: Refusal) -> GroupReading
 
 // Group i, from 0; "no such entry" where it is not below the count, and for a type without groups.
 pub fn group_of(kind: u32, body: &[u8], i: u32) -> GroupReading
-    ensures { λ r. ⌜ paperGroup r ≡ groupAsked kind (now (body .entry)) i ⌝ }
+    ensures { λ r. ⌜ meansGroupReading r ≡ groupOf kind (now (body .entry)) i ⌝ }
 {
     match judge(kind, body) {
         Verdict::Accepted => match kind {
@@ -69,25 +75,25 @@ pub fn group_of(kind: u32, body: &[u8], i: u32) -> GroupReading
     }
 }
 
-// The groups behind the first end bytes, as many as the last four of these say, all of which are there.
+// The groups behind the first end bytes, as many as the last of their fields says, all of which are there.
 fn behind(g: Groups, body: &[u8], end: usize) -> &[u8]
-    requires { ⌜ ((4 ≤ end) × (end ≤ length (now body))) × (fit (layout_paper.meant g) (now body) end (beAt (now body) (end - 4) 4) ≡ true) ⌝ }
-    ensures { λ r. ⌜ now r ≡ part end (place (layout_paper.meant g) (now (body .entry)) end (beAt (now (body .entry)) (end - 4) 4)) (now (body .entry)) ⌝ }
+    requires { ⌜ ((kind.width kind.groupCount ≤ end) × (end ≤ length (now body))) × (fit (layout_paper.meansGroups g) (now body) end (beAt (now body) (end - kind.width kind.groupCount) (kind.width kind.groupCount)) ≡ true) ⌝ }
+    ensures { λ r. ⌜ now r ≡ part end (groupOffset (layout_paper.meansGroups g) (now (body .entry)) end (beAt (now (body .entry)) (end - kind.width kind.groupCount) (kind.width kind.groupCount))) (now (body .entry)) ⌝ }
 {
-    let e = layout::place(g, body, end, wire::be4(body, end - 4));
+    let e = layout::place(g, body, end, wire::be4(body, end - width::COUNT));
     &body[end..e]
 }
 
 // The groups or entries of a body as a part of it, without the tail; the empty part where there are none, or the body is refused.
 pub fn groups_of(kind: u32, body: &[u8]) -> &[u8]
-    ensures { λ r. ⌜ now r ≡ groupsPart kind (now (body .entry)) ⌝ }
+    ensures { λ r. ⌜ now r ≡ groupsOf kind (now (body .entry)) ⌝ }
 {
     match judge(kind, body) {
         Verdict::Accepted => match kind {
-            Record::STATISTICS => behind(Groups::Streams, body, 14),
-            Record::SECURITY_STATUS => behind(Groups::Switches, body, 34),
-            Record::SNAPSHOT => behind(Groups::SnapshotEntries, body, 69),
-            Record::INDEX => behind(Groups::IndexEntries, body, 69),
+            Record::STATISTICS => behind(Groups::Streams, body, statistics::SIZE),
+            Record::SECURITY_STATUS => behind(Groups::Switches, body, security_status::SIZE),
+            Record::SNAPSHOT => behind(Groups::SnapshotEntries, body, snapshot::SIZE),
+            Record::INDEX => behind(Groups::IndexEntries, body, index::SIZE),
             _ => &body[0..0],
         },
         Verdict::Refused(_) => &body[0..0],

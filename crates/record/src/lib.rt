@@ -4,10 +4,10 @@ ghost use mathlib.Core.List.{[]};
 ghost use Rattle.wire.specs.Answer.{accepted, refused};
 ghost use Rattle.layout.specs.Layout.{named};
 ghost use Rattle.layout.specs.Paper as layout_paper;
-ghost use Rattle.record.specs.Asked.{told, judging};
+ghost use Rattle.record.specs.Asked.{withTexts, judge};
 ghost use Rattle.record.specs.Record as told_of;
-ghost use Rattle.record.specs.Record.{reading, isListed};
-ghost use Rattle.record.specs.Paper.{paper};
+ghost use Rattle.record.specs.Record.{readBody, isListed};
+ghost use Rattle.record.specs.Paper.{meansReading};
 
 mod channel_heartbeat;
 mod common;
@@ -15,7 +15,6 @@ mod framed;
 mod group;
 mod heartbeat;
 mod index;
-mod named;
 mod order;
 mod resend;
 mod security_status;
@@ -27,6 +26,8 @@ mod volume_index;
 
 pub use channel_heartbeat::ChannelHeartbeat;
 pub use channel_heartbeat::channel_heartbeat_of;
+pub use channel_heartbeat::channel_heartbeat_texts;
+pub use channel_heartbeat::judge_channel_heartbeat;
 pub use common::Common;
 pub use framed::FrameAnswer;
 pub use framed::FrameReading;
@@ -35,27 +36,35 @@ pub use group::GroupAnswer;
 pub use group::GroupReading;
 pub use group::group_of;
 pub use group::groups_of;
+pub use heartbeat::judge_heartbeat;
 pub use index::Index;
 pub use index::index_of;
+pub use index::index_texts;
+pub use index::judge_index;
 pub use layout::Refusal;
 use layout::Verdict;
-pub use named::group_text_of;
-pub use named::text_of;
 pub use order::Order;
 pub use order::judge_order;
 pub use order::order_of;
 pub use order::order_texts;
 pub use resend::Resend;
+pub use resend::judge_resend;
 pub use resend::resend_of;
+pub use resend::resend_texts;
 pub use security_status::SecurityStatus;
 pub use security_status::Switch;
+pub use security_status::judge_security_status;
 pub use security_status::security_status_of;
+pub use security_status::security_status_texts;
 pub use snapshot::Snapshot;
+pub use snapshot::judge_snapshot;
 pub use snapshot::snapshot_of;
+pub use snapshot::snapshot_texts;
 pub use statistics::Statistics;
 pub use statistics::Stream;
+pub use statistics::judge_statistics;
 pub use statistics::statistics_of;
-pub use texts::Text;
+pub use statistics::statistics_texts;
 pub use texts::Texts;
 use texts::no_texts;
 pub use trade::Trade;
@@ -63,7 +72,9 @@ pub use trade::judge_trade;
 pub use trade::trade_of;
 pub use trade::trade_texts;
 pub use volume_index::VolumeIndex;
+pub use volume_index::judge_volume_index;
 pub use volume_index::volume_index_of;
+pub use volume_index::volume_index_texts;
 
 pub enum Record {
     Heartbeat,
@@ -114,7 +125,7 @@ pub struct Reading {
 }
 
 pub(crate) fn refused(x: Refusal) -> Reading
-    ensures { λ r. ⌜ paper r ≡ told (refused (layout_paper.refusal x) []) [] ⌝ }
+    ensures { λ r. ⌜ meansReading r ≡ withTexts (refused (layout_paper.bodyRefusal x) []) [] ⌝ }
 {
     Reading {
         answer: Answer::Refused(x),
@@ -123,7 +134,7 @@ pub(crate) fn refused(x: Refusal) -> Reading
 }
 
 fn unknown(kind: u32) -> Reading
-    ensures { λ r. ⌜ paper r ≡ told (accepted (told_of.unknown kind)) [] ⌝ }
+    ensures { λ r. ⌜ meansReading r ≡ withTexts (accepted (told_of.unknown kind)) [] ⌝ }
 {
     Reading {
         answer: Answer::Read(Record::Unknown(kind)),
@@ -152,26 +163,26 @@ pub fn listed(kind: u32) -> bool
 
 // How a body of a type is judged: 4 where it lacks bytes of its layout, else 5 where a field is out of range. An unlisted type is accepted.
 pub fn judge(kind: u32, body: &[u8]) -> Verdict
-    ensures { λ r. ⌜ layout_paper.paper r ≡ judging kind (now (body .entry)) ⌝ }
+    ensures { λ r. ⌜ layout_paper.meansVerdict r ≡ judge kind (now (body .entry)) ⌝ }
 {
     match kind {
-        Record::HEARTBEAT => heartbeat::judge(body),
-        Record::CHANNEL_HEARTBEAT => channel_heartbeat::judge(body),
-        Record::RESEND => resend::judge(body),
-        Record::STATISTICS => statistics::judge(body),
-        Record::SECURITY_STATUS => security_status::judge(body),
-        Record::SNAPSHOT => snapshot::judge(body),
-        Record::INDEX => index::judge(body),
-        Record::VOLUME_INDEX => volume_index::judge(body),
-        Record::ORDER => order::judge_order(body),
-        Record::TRADE => trade::judge_trade(body),
+        Record::HEARTBEAT => judge_heartbeat(body),
+        Record::CHANNEL_HEARTBEAT => judge_channel_heartbeat(body),
+        Record::RESEND => judge_resend(body),
+        Record::STATISTICS => judge_statistics(body),
+        Record::SECURITY_STATUS => judge_security_status(body),
+        Record::SNAPSHOT => judge_snapshot(body),
+        Record::INDEX => judge_index(body),
+        Record::VOLUME_INDEX => judge_volume_index(body),
+        Record::ORDER => judge_order(body),
+        Record::TRADE => judge_trade(body),
         _ => Verdict::Accepted,
     }
 }
 
 // The record of a type and a body, with its texts; or refusal 4 or 5. An unlisted type is answered as unknown.
 pub fn read(kind: u32, body: &[u8]) -> Reading
-    ensures { λ r. ⌜ paper r ≡ reading kind (now (body .entry)) ⌝ }
+    ensures { λ r. ⌜ meansReading r ≡ readBody kind (now (body .entry)) ⌝ }
 {
     match kind {
         Record::HEARTBEAT => heartbeat::read(body),

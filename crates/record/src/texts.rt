@@ -4,45 +4,30 @@ ghost use mathlib.Core.List.{[], _++_};
 ghost use Prim.Native.Nat.{_+_, _≤_};
 ghost use lib.ListN.{length};
 ghost use Rattle.wire.specs.Bytes.{part};
-ghost use Rattle.record.specs.Asked.{filled};
+ghost use Rattle.record.specs.Asked.{filled, textRoom};
+use layout::TEXT_ROOM;
 
-// A record's texts, one behind the other in the layout's order; unused places are zero.
+// A record's texts, one behind the other in the layout's order; unused bytes are zero.
 pub struct Texts {
-    pub bytes: [u8; 24],
+    pub bytes: [u8; TEXT_ROOM],
     pub length: usize,
-}
-
-impl Texts {
-    // The most bytes that the texts of one record take.
-    pub const ROOM: usize = 24;
-}
-
-// The texts by name.
-pub enum Text {
-    Stream,
-    Security,
-    Source,
-    Phase,
-    FinancialStatus,
-    NewsId,
-    RejectText,
 }
 
 pub(crate) fn no_texts() -> Texts
     ensures { λ r. ⌜ (r .bytes ≡ filled []) × (r .length ≡ 0) ⌝ }
 {
     Texts {
-        bytes: [0u8; 24],
+        bytes: [0u8; TEXT_ROOM],
         length: 0,
     }
 }
 
 // The m bytes from a on, and the n bytes from b on behind them, all of which are there.
 pub(crate) fn gather(s: &[u8], a: usize, m: usize, b: usize, n: usize) -> Texts
-    requires { ⌜ ((a + m ≤ length (now s)) × (b + n ≤ length (now s))) × (m + n ≤ 24) ⌝ }
+    requires { ⌜ ((a + m ≤ length (now s)) × (b + n ≤ length (now s))) × (m + n ≤ textRoom) ⌝ }
     ensures { λ r. ⌜ (r .bytes ≡ filled (part a (a + m) (now (s .entry)) ++ part b (b + n) (now (s .entry)))) × (r .length ≡ length (part a (a + m) (now (s .entry)) ++ part b (b + n) (now (s .entry)))) ⌝ }
 {
-    let mut bytes = [0u8; 24];
+    let mut bytes = [0u8; TEXT_ROOM];
     let e = a + m;
     let f = b + n;
     wire::copy(&mut bytes, 0, &s[a..e]);

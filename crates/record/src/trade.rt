@@ -3,10 +3,10 @@ ghost use mathlib.Core.Path.{_≡_};
 ghost use lib.ListN.{length};
 ghost use Rattle.layout.specs.Layout.{fields, ranges, texts};
 ghost use Rattle.layout.specs.Layout as of;
-ghost use Rattle.layout.specs.Group.{judged};
+ghost use Rattle.layout.specs.Group.{judgeBody};
 ghost use Rattle.layout.specs.Paper as layout_paper;
 ghost use Rattle.record.specs.Asked.{filled};
-ghost use Rattle.record.specs.Paper.{paper, paperRecord};
+ghost use Rattle.record.specs.Paper.{meansReading, meansRecord};
 ghost use Rattle.record.specs.Record.{numbersAs, had, readAs};
 ghost use Rattle.record.specs.declared.Record.the-variants as is;
 use crate::Answer;
@@ -18,12 +18,14 @@ use crate::texts::gather;
 use crate::texts::no_texts;
 use layout::Refusal;
 use layout::Verdict;
-use layout::execution;
-use layout::natural;
-use layout::number;
-use layout::price;
-use layout::quantity;
-use layout::time;
+use layout::execution_in_range;
+use layout::natural_in_range;
+use layout::number_in_range;
+use layout::price_in_range;
+use layout::quantity_in_range;
+use layout::time_in_range;
+use layout::trade;
+use layout::width;
 
 #[repr(C)]
 pub struct Trade {
@@ -37,23 +39,27 @@ pub struct Trade {
     pub time: i64,
 }
 
+// The two texts that stand side by side.
+const SECURITY_AND_SOURCE: usize = width::SECURITY + width::SOURCE;
+
 // Whether its fields are in range.
 fn in_range(body: &[u8]) -> bool
     ensures { λ r. ⌜ r ≡ ranges (fields of.trade) (now (body .entry)) 0 ⌝ }
 {
-    number(wire::be8(body, 2))
-        & (natural(wire::be8(body, 13))
-            & (natural(wire::be8(body, 21))
-                & (price(wire::be8(body, 41))
-                    & (quantity(wire::be8(body, 49))
-                        & (execution(wire::be1(body, 57)) & time(wire::be8(body, 58)))))))
+    number_in_range(wire::be8(body, trade::NUMBER))
+        & (natural_in_range(wire::be8(body, trade::BID_NUMBER))
+            & (natural_in_range(wire::be8(body, trade::OFFER_NUMBER))
+                & (price_in_range(wire::be8(body, trade::PRICE))
+                    & (quantity_in_range(wire::be8(body, trade::QUANTITY))
+                        & (execution_in_range(wire::be1(body, trade::EXECUTION))
+                            & time_in_range(wire::be8(body, trade::TIME)))))))
 }
 
 // 4 where the body lacks bytes, else 5 where a field is out of range.
 pub fn judge_trade(body: &[u8]) -> Verdict
-    ensures { λ r. ⌜ layout_paper.paper r ≡ judged of.trade (now (body .entry)) ⌝ }
+    ensures { λ r. ⌜ layout_paper.meansVerdict r ≡ judgeBody of.trade (now (body .entry)) ⌝ }
 {
-    if body.len() < 66 {
+    if body.len() < trade::SIZE {
         return Verdict::Refused(Refusal::NotItsLayout);
     }
     Verdict::Accepted.also(in_range(body))
@@ -61,9 +67,9 @@ pub fn judge_trade(body: &[u8]) -> Verdict
 
 // The numbers of a trade that some bytes have; all 0 where they lack some of its fields.
 pub fn trade_of(body: &[u8]) -> Trade
-    ensures { λ r. ⌜ paperRecord (is.Trade r) ≡ numbersAs of.trade (had of.trade (now (body .entry))) ⌝ }
+    ensures { λ r. ⌜ meansRecord (is.Trade r) ≡ numbersAs of.trade (had of.trade (now (body .entry))) ⌝ }
 {
-    if body.len() < 66 {
+    if body.len() < trade::SIZE {
         return Trade {
             channel: 0,
             number: 0,
@@ -75,16 +81,15 @@ pub fn trade_of(body: &[u8]) -> Trade
             time: 0,
         };
     }
-    let b = &body[0..66];
     Trade {
-        channel: wire::be2(b, 0),
-        number: wire::i64_at(b, 2),
-        bid_number: wire::i64_at(b, 13),
-        offer_number: wire::i64_at(b, 21),
-        trade_price: wire::i64_at(b, 41),
-        quantity: wire::i64_at(b, 49),
-        execution: wire::be1(b, 57),
-        time: wire::i64_at(b, 58),
+        channel: wire::be2(body, trade::CHANNEL),
+        number: wire::i64_at(body, trade::NUMBER),
+        bid_number: wire::i64_at(body, trade::BID_NUMBER),
+        offer_number: wire::i64_at(body, trade::OFFER_NUMBER),
+        trade_price: wire::i64_at(body, trade::PRICE),
+        quantity: wire::i64_at(body, trade::QUANTITY),
+        execution: wire::be1(body, trade::EXECUTION),
+        time: wire::i64_at(body, trade::TIME),
     }
 }
 
@@ -92,14 +97,20 @@ pub fn trade_of(body: &[u8]) -> Trade
 pub fn trade_texts(body: &[u8]) -> Texts
     ensures { λ r. ⌜ (r .bytes ≡ filled (texts (fields of.trade) (had of.trade (now (body .entry))) 0)) × (r .length ≡ length (texts (fields of.trade) (had of.trade (now (body .entry))) 0)) ⌝ }
 {
-    if body.len() < 66 {
+    if body.len() < trade::SIZE {
         return no_texts();
     }
-    gather(body, 10, 3, 29, 12)
+    gather(
+        body,
+        trade::STREAM,
+        width::STREAM,
+        trade::SECURITY,
+        SECURITY_AND_SOURCE,
+    )
 }
 
 pub(crate) fn read(body: &[u8]) -> Reading
-    ensures { λ r. ⌜ paper r ≡ readAs of.trade (now (body .entry)) ⌝ }
+    ensures { λ r. ⌜ meansReading r ≡ readAs of.trade (now (body .entry)) ⌝ }
 {
     match judge_trade(body) {
         Verdict::Accepted => Reading {

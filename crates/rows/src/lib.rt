@@ -4,11 +4,11 @@ ghost use lib.ListN.{take};
 ghost use Rattle.gaps.specs.Gaps.{run};
 ghost use Rattle.gaps.specs.Built.{padded};
 ghost use Rattle.seats.specs.Places.{channelLimit};
-ghost use Rattle.rows.specs.Row.{there};
-ghost use Rattle.rows.specs.Held.{leftAt, heldIn};
-ghost use Rattle.rows.specs.Gap.{gapIn};
+ghost use Rattle.rows.specs.Row.{rowThere};
+ghost use Rattle.rows.specs.Held.{leftAt, search};
+ghost use Rattle.rows.specs.Gap.{room};
 ghost use Rattle.rows.specs.Shift.{closed, opened};
-use gaps::Runs;
+use gaps::Run;
 use seats::Seat;
 
 // Whether a run holds a number, and the place of that run: at an end, where it is left as from first to last; alone in it; or between others.
@@ -28,9 +28,9 @@ pub struct Gap {
 
 // Are these a place of channels and a count of runs that a row holds?
 fn there(at: usize, count: usize) -> bool
-    ensures { λ r. ⌜ r ≡ there at count ⌝ }
+    ensures { λ r. ⌜ r ≡ rowThere at count ⌝ }
 {
-    (at < Seat::COUNT) & (count <= Runs::LIMIT)
+    (at < Seat::COUNT) & (count <= Run::LIMIT)
 }
 
 // Whether the run from a to e, at place p, holds n, which is not above e, and what is left of it where n is its end.
@@ -60,10 +60,10 @@ pub fn search<'a>(
     count: usize,
     n: u64,
 ) -> Held
-    ensures { λ r. ⌜ r ≡ heldIn (now (first .entry)) (now (last .entry)) at count n ⌝ }
+    ensures { λ r. ⌜ r ≡ search (now (first .entry)) (now (last .entry)) at count n ⌝ }
 {
     if there(at, count) {
-        let b = at * Runs::LIMIT;
+        let b = at * Run::LIMIT;
         let mut j: usize = 0;
         while j < count {
             if n <= last[b + j] {
@@ -83,7 +83,7 @@ pub fn room<'a>(
     count: usize,
     highest: u64,
 ) -> Gap
-    ensures { λ r. ⌜ r ≡ gapIn (now (first .entry)) (now (last .entry)) at count highest ⌝ }
+    ensures { λ r. ⌜ r ≡ room (now (first .entry)) (now (last .entry)) at count highest ⌝ }
 {
     if there(at, count) & (highest <= Seat::MOST) {
         if count == 0 {
@@ -94,7 +94,7 @@ pub fn room<'a>(
             };
         }
         let j = count - 1;
-        let p = at * Runs::LIMIT + j;
+        let p = at * Run::LIMIT + j;
         if last[p] == highest {
             return Gap {
                 full: false,
@@ -102,7 +102,7 @@ pub fn room<'a>(
                 first: first[p],
             };
         }
-        if count < Runs::LIMIT {
+        if count < Run::LIMIT {
             return Gap {
                 full: false,
                 at: count,

@@ -1,53 +1,79 @@
 // The lines below a record's: its groups, and its entries with their shown quantities.
 use crate::field::PHASE;
 use crate::field::STREAM;
+use crate::named::span;
+use crate::table;
 use crate::words::Line;
-use crate::words::empty;
 use crate::words::short;
-use entries::AskedEntry;
-use entries::AskedQuantity;
+use entries::Entry;
 use entries::Says;
-use record::GroupAnswer;
+use layout::TEXT_ROOM;
 use record::Record;
 
-// Group i of a statistics body or a security status.
-fn group(kind: u32, body: &[u8], i: u32) -> Line {
-    let reading = record::group_of(kind, body, i);
-    let answer = reading.answer;
-    let found = reading.texts;
-    let texts = found.bytes;
-    let n = i as i64;
-    match answer {
-        GroupAnswer::Stream(g) => short(
-            texts,
-            Line::STREAM,
-            n,
-            STREAM,
-            g.stock_number as i64,
-            PHASE,
-            0,
-            0,
-        ),
-        GroupAnswer::Switch(g) => {
-            short(
-                texts,
-                Line::SWITCH,
-                n,
-                g.switch_type as i64,
-                g.yes_no as i64,
-                0,
-                0,
-                0,
-            )
-        }
-        GroupAnswer::NoSuchEntry => empty(),
-        GroupAnswer::Refused(_) => empty(),
+// The bytes of a shown quantity.
+pub const QUANTITY: usize = layout::width::QUANTITY;
+
+// How many bytes a group has.
+pub fn width(kind: u32) -> usize {
+    if kind == Record::STATISTICS {
+        layout::stream::WIDTH
+    } else {
+        layout::switch::WIDTH
     }
 }
 
-// What entry i says, with its type t.
-fn entry(i: i64, t: i64, says: Says) -> Line {
-    let none = [0u8; 24];
+// The texts of a group of a statistics body.
+fn texts_of(g: &[u8]) -> [u8; TEXT_ROOM] {
+    let mut texts = [0u8; TEXT_ROOM];
+    wire::copy(
+        &mut texts,
+        0,
+        span(g, layout::stream::STREAM, layout::width::STREAM),
+    );
+    wire::copy(
+        &mut texts,
+        layout::width::STREAM,
+        span(g, layout::stream::PHASE, layout::width::PHASE),
+    );
+    texts
+}
+
+// The line of group i of a statistics body or a security status.
+pub fn group(kind: u32, g: &[u8], i: u32) -> Line {
+    let n = i as i64;
+    if kind == Record::STATISTICS {
+        let stock_number = wire::be4(g, layout::stream::STOCK_NUMBER) as i64;
+        return short(
+            texts_of(g),
+            table::STREAM,
+            n,
+            STREAM,
+            stock_number,
+            PHASE,
+            0,
+            0,
+        );
+    }
+    let switch_type = wire::be2(g, layout::switch::SWITCH_TYPE) as i64;
+    let yes_no = wire::be2(g, layout::switch::YES_NO) as i64;
+    short(
+        [0u8; TEXT_ROOM],
+        table::SWITCH,
+        n,
+        switch_type,
+        yes_no,
+        0,
+        0,
+        0,
+    )
+}
+
+// The line of entry i.
+pub fn entry(i: u32, e: Entry) -> Line {
+    let none = [0u8; TEXT_ROOM];
+    let i = i as i64;
+    let t = e.characters as i64;
+    let says = e.says;
     match says {
         Says::Level {
             entry_price,
@@ -57,7 +83,7 @@ fn entry(i: i64, t: i64, says: Says) -> Line {
             shown: _,
         } => short(
             none,
-            Line::LEVEL,
+            table::LEVEL,
             i,
             t,
             entry_price,
@@ -72,7 +98,7 @@ fn entry(i: i64, t: i64, says: Says) -> Line {
             shown: _,
         } => short(
             none,
-            Line::LEVEL_WITHOUT_PRICE,
+            table::LEVEL_WITHOUT_PRICE,
             i,
             t,
             size,
@@ -80,11 +106,11 @@ fn entry(i: i64, t: i64, says: Says) -> Line {
             order_count,
             0,
         ),
-        Says::Price { entry_price } => short(none, Line::PRICE, i, t, entry_price, 0, 0, 0),
-        Says::Size { size } => short(none, Line::SIZE, i, t, size, 0, 0, 0),
+        Says::Price { entry_price } => short(none, table::PRICE, i, t, entry_price, 0, 0, 0),
+        Says::Size { size } => short(none, table::SIZE, i, t, size, 0, 0, 0),
         Says::Both { entry_price, size } => short(
             none,
-            Line::PRICE_AND_SIZE,
+            table::PRICE_AND_SIZE,
             i,
             t,
             entry_price,
@@ -92,36 +118,35 @@ fn entry(i: i64, t: i64, says: Says) -> Line {
             0,
             0,
         ),
-        Says::NoLimit => short(none, Line::NO_LIMIT, i, t, 0, 0, 0, 0),
-        Says::Unknown => short(none, Line::UNKNOWN, i, t, 0, 0, 0, 0),
+        Says::NoLimit => short(none, table::NO_LIMIT, i, t, 0, 0, 0, 0),
+        Says::Unknown => short(none, table::UNKNOWN_ENTRY, i, t, 0, 0, 0, 0),
     }
 }
 
-// Group or entry i; the empty line where there is none.
-pub fn below(kind: u32, body: &[u8], i: u32) -> Line {
-    if (kind == Record::STATISTICS) | (kind == Record::SECURITY_STATUS) {
-        return group(kind, body, i);
+// Where the shown quantities of an entry begin that stands from a place up to another; the second where it has none.
+pub fn behind(kind: u32, from: usize, to: usize) -> usize {
+    if kind != Record::SNAPSHOT {
+        return to;
     }
-    match entries::entry_of(kind, body, i) {
-        AskedEntry::Found(e) => {
-            let says = e.says;
-            entry(i as i64, e.characters as i64, says)
-        }
-        AskedEntry::NoSuchEntry => empty(),
-        AskedEntry::Refused(_) => empty(),
+    if to < from {
+        return to;
     }
+    if to - from < layout::entry::WIDTH {
+        return to;
+    }
+    from + layout::entry::WIDTH
 }
 
-// Shown quantity j of entry i; the empty line where there is none.
-pub fn quantity(kind: u32, body: &[u8], i: u32, j: u32) -> Line {
-    let number = if j == 0 {
-        Line::FIRST_QUANTITY
-    } else {
-        Line::QUANTITY
-    };
-    match entries::quantity_of(kind, body, i, j) {
-        AskedQuantity::Found(z) => short([0u8; 24], number, z, 0, 0, 0, 0, 0),
-        AskedQuantity::NoSuchEntry => empty(),
-        AskedQuantity::Refused(_) => empty(),
-    }
+// A shown quantity that stands at a place, with the number of its line.
+pub fn quantity(body: &[u8], at: usize, number: u64) -> Line {
+    short(
+        [0u8; TEXT_ROOM],
+        number,
+        wire::i64_at(body, at),
+        0,
+        0,
+        0,
+        0,
+        0,
+    )
 }

@@ -1,7 +1,8 @@
 // A field by its mark.
+use crate::named;
+use crate::named::Text;
 use crate::value;
 use record::Record;
-use record::Text;
 
 // The field of a mark for a text says which text.
 pub const STREAM: i64 = 0;
@@ -18,7 +19,7 @@ pub const NEWS_ID: i64 = 5;
 
 pub const REJECT_TEXT: i64 = 6;
 
-fn named(which: i64) -> Text {
+fn meant(which: i64) -> Text {
     match which {
         STREAM => Text::Stream,
         SECURITY => Text::Security,
@@ -33,9 +34,9 @@ fn named(which: i64) -> Text {
 // A text of a record; in a statistics body the groups alone have texts.
 fn text_in(kind: u32, which: i64, texts: &[u8]) -> &[u8] {
     if kind == Record::STATISTICS {
-        return record::group_text_of(kind, named(which), texts);
+        return named::group_text_of(kind, meant(which), texts);
     }
-    record::text_of(kind, named(which), texts)
+    named::text_of(kind, meant(which), texts)
 }
 
 // N is a number, P a price or an amount, Q a quantity, size or volume, T a time, C a character, E an entry's type, S a text.

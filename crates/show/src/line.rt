@@ -1,5 +1,6 @@
 // A line for each record: the frame's offset, its name, and its fields in its layout's order.
 use crate::field;
+use crate::table;
 use crate::words::Line;
 use crate::words::full;
 use record::Answer;
@@ -122,31 +123,31 @@ fn fields(offset: i64, r: Record, len: i64) -> [i64; 12] {
 // The lines of the table for a type: read, and refused.
 fn number(kind: u32) -> u64 {
     match kind {
-        Record::ORDER => 2,
-        Record::TRADE => 3,
-        Record::SNAPSHOT => 12,
-        Record::INDEX => 13,
-        Record::VOLUME_INDEX => 14,
-        Record::SECURITY_STATUS => 15,
-        Record::STATISTICS => 16,
-        Record::RESEND => 17,
-        Record::CHANNEL_HEARTBEAT => 18,
-        Record::HEARTBEAT => 19,
-        _ => 20,
+        Record::ORDER => table::ORDER,
+        Record::TRADE => table::TRADE,
+        Record::SNAPSHOT => table::SNAPSHOT,
+        Record::INDEX => table::INDEX,
+        Record::VOLUME_INDEX => table::VOLUME_INDEX,
+        Record::SECURITY_STATUS => table::SECURITY_STATUS,
+        Record::STATISTICS => table::STATISTICS,
+        Record::RESEND => table::RESEND,
+        Record::CHANNEL_HEARTBEAT => table::CHANNEL_HEARTBEAT,
+        Record::HEARTBEAT => table::HEARTBEAT,
+        _ => table::UNKNOWN,
     }
 }
 
 fn refused(kind: u32) -> u64 {
     match kind {
-        Record::ORDER => 23,
-        Record::TRADE => 24,
-        Record::SNAPSHOT => 25,
-        Record::INDEX => 26,
-        Record::VOLUME_INDEX => 27,
-        Record::SECURITY_STATUS => 28,
-        Record::STATISTICS => 29,
-        Record::RESEND => 30,
-        _ => 31,
+        Record::ORDER => table::REFUSED_ORDER,
+        Record::TRADE => table::REFUSED_TRADE,
+        Record::SNAPSHOT => table::REFUSED_SNAPSHOT,
+        Record::INDEX => table::REFUSED_INDEX,
+        Record::VOLUME_INDEX => table::REFUSED_VOLUME_INDEX,
+        Record::SECURITY_STATUS => table::REFUSED_SECURITY_STATUS,
+        Record::STATISTICS => table::REFUSED_STATISTICS,
+        Record::RESEND => table::REFUSED_RESEND,
+        _ => table::REFUSED_CHANNEL_HEARTBEAT,
     }
 }
 
@@ -158,15 +159,44 @@ fn number_of(why: Refusal) -> i64 {
     }
 }
 
+// How many groups or entries stand below a record.
+fn count(r: Record) -> u32 {
+    match r {
+        Record::Heartbeat => 0,
+        Record::ChannelHeartbeat(_) => 0,
+        Record::Resend(_) => 0,
+        Record::Statistics(x) => x.count,
+        Record::SecurityStatus(x) => x.count,
+        Record::Snapshot(x) => x.count,
+        Record::Index(x) => x.count,
+        Record::VolumeIndex(_) => 0,
+        Record::Order(_) => 0,
+        Record::Trade(_) => 0,
+        Record::Unknown(_) => 0,
+    }
+}
+
+// The line of a frame, and how many groups or entries stand below it: none where the record is refused.
+pub struct Head {
+    pub line: Line,
+    pub count: u32,
+}
+
 // The line of a frame at an offset.
-pub fn line(offset: i64, kind: u32, body: &[u8]) -> Line {
+pub fn of_frame(offset: i64, kind: u32, body: &[u8]) -> Head {
     let reading = record::read(kind, body);
     let answer = reading.answer;
     let found = reading.texts;
     let texts = found.bytes;
     let len = wire::signed(body.len() as u64);
     match answer {
-        Answer::Read(r) => full(texts, number(kind), fields(offset, r, len)),
-        Answer::Refused(why) => full(texts, refused(kind), few(offset, number_of(why), 0, 0)),
+        Answer::Read(r) => Head {
+            line: full(texts, number(kind), fields(offset, r, len)),
+            count: count(r),
+        },
+        Answer::Refused(why) => Head {
+            line: full(texts, refused(kind), few(offset, number_of(why), 0, 0)),
+            count: 0,
+        },
     }
 }

@@ -5,11 +5,18 @@ ghost use lib.ListN.{length};
 mod below;
 mod field;
 mod line;
+mod named;
+mod table;
 mod value;
 mod words;
 
+use entries::Cursor;
+use entries::Step;
 use frame::Frame;
 use frame::Framed;
+use layout::TEXT_ROOM;
+use record::Record;
+use window::Held;
 use words::Line;
 
 // The window that slides over the input holds the longest frame several times, so that reads are few.
@@ -24,28 +31,163 @@ const TABLE: usize = 2048;
 // A piece of a line is shorter than this.
 const MARGIN: usize = 1024;
 
-// Where the program is: bytes of the window that are shown, offset and frames so far, bytes gathered, and the number of the
-// refusal 1 to 3 at that place, 0 where there is none.
+// Where the program is: bytes of the window that are shown, offset and frames so far, bytes gathered, the number of the refusal
+// 1 to 3 at that place, 0 where there is none, and whether a write failed.
 struct Place {
     from: usize,
     offset: u64,
     frames: u64,
     gathered: usize,
     refused: u32,
+    failed: bool,
 }
 
-// Piece j of line i of a frame: line 0 is the record's, the lines below it follow; piece 0 is the line, shown quantities follow.
-fn piece(offset: i64, kind: u32, body: &[u8], i: u32, j: u32) -> Line {
-    if i == 0 {
-        if j == 0 {
-            return line::line(offset, kind, body);
+// Tells a read that failed, and a write.
+fn input_failed() {
+    os::fail(b"show: standard input");
+}
+
+fn output_failed() {
+    os::fail(b"show: standard output");
+}
+
+// So many bytes are gathered, and no write failed.
+fn good(count: usize) -> Held {
+    Held {
+        count,
+        failed: false,
+    }
+}
+
+// A line, or a part of one, behind what is gathered, which is written first where there is little room.
+fn piece(out: &mut [u8], at: usize, table: &[u8], kind: u32, line: Line) -> Held {
+    let room = window::flush(out, at, MARGIN);
+    if room.failed {
+        return room;
+    }
+    good(words::write(out, room.count, table, kind, line))
+}
+
+// The shown quantities that stand in a body from a place up to another.
+fn show_quantities(
+    out: &mut [u8],
+    at: usize,
+    table: &[u8],
+    body: &[u8],
+    from: usize,
+    to: usize,
+) -> Held {
+    let mut place = at;
+    let mut p = from;
+    let mut number = table::FIRST_QUANTITY;
+    while p < to {
+        if to - p < below::QUANTITY {
+            return good(place);
         }
-        return words::empty();
+        let put = piece(out, place, table, 0, below::quantity(body, p, number));
+        if put.failed {
+            return put;
+        }
+        place = put.count;
+        number = table::QUANTITY;
+        p += below::QUANTITY;
     }
-    if j == 0 {
-        return below::below(kind, body, i - 1);
+    good(place)
+}
+
+// Entry i of a body, whose shown quantities stand from a place up to another.
+fn show_entry(
+    out: &mut [u8],
+    at: usize,
+    table: &[u8],
+    body: &[u8],
+    line: Line,
+    from: usize,
+    to: usize,
+) -> Held {
+    let a = piece(out, at, table, 0, line);
+    if a.failed {
+        return a;
     }
-    below::quantity(kind, body, i - 1, j - 1)
+    let b = show_quantities(out, a.count, table, body, from, to);
+    if b.failed {
+        return b;
+    }
+    good(text::word(out, b.count, b"\n"))
+}
+
+// The entries of a body, by the cursor.
+fn show_entries(
+    out: &mut [u8],
+    at: usize,
+    table: &[u8],
+    kind: u32,
+    body: &[u8],
+    count: u32,
+) -> Held {
+    let start = Cursor::start(kind, body);
+    let mut from = start.place;
+    let mut place = at;
+    let mut i: u32 = 0;
+    while i < count {
+        let cursor = Cursor {
+            place: from,
+            left: count - i,
+        };
+        let more = i + 1;
+        match cursor.step(kind, body) {
+            Step::Found(e, next) => {
+                let to = next.place;
+                let line = below::entry(i, e);
+                let put = show_entry(
+                    out,
+                    place,
+                    table,
+                    body,
+                    line,
+                    below::behind(kind, from, to),
+                    to,
+                );
+                if put.failed {
+                    return put;
+                }
+                place = put.count;
+                from = to;
+                i = more;
+            }
+            Step::NoSuchEntry => return good(place),
+            Step::Refused(_) => return good(place),
+        }
+    }
+    good(place)
+}
+
+// The groups of a statistics body or a security status, one behind the other.
+fn show_groups(out: &mut [u8], at: usize, table: &[u8], kind: u32, all: &[u8], count: u32) -> Held {
+    let width = below::width(kind);
+    let mut from: usize = 0;
+    let mut place = at;
+    let mut i: u32 = 0;
+    while i < count {
+        if all.len() - from < width {
+            return good(place);
+        }
+        let to = from + width;
+        let put = piece(
+            out,
+            place,
+            table,
+            kind,
+            below::group(kind, &all[from..to], i),
+        );
+        if put.failed {
+            return put;
+        }
+        place = text::word(out, put.count, b"\n");
+        from = to;
+        i += 1;
+    }
+    good(place)
 }
 
 // All lines of a frame at an offset.
@@ -56,31 +198,28 @@ fn show_frame(
     offset: u64,
     kind: u32,
     body: &[u8],
-) -> usize {
-    let mut place = at;
-    let mut i: u32 = 0;
-    let mut j: u32 = 0;
-    let mut pieces: u32 = 0;
-    while pieces < u32::MAX {
-        pieces += 1;
-        let a = window::flush(out, place, MARGIN);
-        let line = piece(wire::signed(offset), kind, body, i, j);
-        if 0 < line.number {
-            place = words::write(out, a, table, kind, line);
-            j += 1;
-        } else {
-            if j == 0 {
-                return a;
-            }
-            place = text::word(out, a, b"\n");
-            i += 1;
-            j = 0;
-        }
+) -> Held {
+    let head = line::of_frame(wire::signed(offset), kind, body);
+    let count = head.count;
+    let put = piece(out, at, table, kind, head.line);
+    if put.failed {
+        return put;
     }
-    place
+    let place = text::word(out, put.count, b"\n");
+    if (kind == Record::STATISTICS) | (kind == Record::SECURITY_STATUS) {
+        return show_groups(
+            out,
+            place,
+            table,
+            kind,
+            record::groups_of(kind, body),
+            count,
+        );
+    }
+    show_entries(out, place, table, kind, body, count)
 }
 
-// Shows the frames of the window's bytes.
+// Shows the frames of the window's bytes, up to a refusal or a failed write.
 fn show_window(bytes: &[u8], out: &mut [u8], table: &[u8], start: Place) -> Place
     ensures { λ r. ⌜ r .from ≤ length (now (bytes .entry)) ⌝ }
 {
@@ -92,10 +231,21 @@ fn show_window(bytes: &[u8], out: &mut [u8], table: &[u8], start: Place) -> Plac
         let part = &bytes[from..];
         match frame::read(part) {
             Framed::Whole(f) => {
-                gathered = show_frame(out, gathered, table, offset, f.kind, frame::body(part));
+                let held = show_frame(out, gathered, table, offset, f.kind, frame::body(part));
+                gathered = held.count;
                 from += f.total;
                 offset = std::num::wrapping_add_u64(offset, f.total as u64);
                 frames = std::num::wrapping_add_u64(frames, 1);
+                if held.failed {
+                    return Place {
+                        from,
+                        offset,
+                        frames,
+                        gathered,
+                        refused: 0,
+                        failed: true,
+                    };
+                }
             }
             Framed::Refused(why) => {
                 let refused = frame::number(why);
@@ -105,6 +255,7 @@ fn show_window(bytes: &[u8], out: &mut [u8], table: &[u8], start: Place) -> Plac
                     frames,
                     gathered,
                     refused,
+                    failed: false,
                 };
             }
         }
@@ -115,6 +266,7 @@ fn show_window(bytes: &[u8], out: &mut [u8], table: &[u8], start: Place) -> Plac
         frames,
         gathered,
         refused: 0,
+        failed: false,
     }
 }
 
@@ -123,11 +275,11 @@ fn last(place: Place) -> Line {
     let offset = wire::signed(place.offset);
     let frames = wire::signed(place.frames);
     if place.refused == 0 {
-        return words::short([0u8; 24], Line::END, offset, frames, 0, 0, 0, 0);
+        return words::short([0u8; TEXT_ROOM], table::END, offset, frames, 0, 0, 0, 0);
     }
     words::short(
-        [0u8; 24],
-        Line::REFUSED,
+        [0u8; TEXT_ROOM],
+        table::REFUSED,
         offset,
         place.refused as i64,
         0,
@@ -137,42 +289,62 @@ fn last(place: Place) -> Line {
     )
 }
 
+// Writes all that is gathered, and tells a failed write.
+fn put(out: &[u8], gathered: usize) {
+    let held = window::flush(out, gathered, GATHERED + 1);
+    if held.failed {
+        output_failed();
+    }
+}
+
 // Writes the last line, and all that is gathered.
 fn finish(out: &mut [u8], table: &[u8], place: Place) {
     let a = words::write(out, place.gathered, table, 0, last(place));
     let b = text::word(out, a, b"\n");
-    window::flush(out, b, GATHERED + 1);
+    put(out, b);
 }
 
 // Shows the frames of standard input. A refusal 1 waits for more bytes while there are any; the turns are more than any input takes.
-fn show(bytes: &mut [u8], out: &mut [u8], table: &[u8]) -> Place {
+// A read or a write that fails is told, and no line says that all is shown.
+fn show(bytes: &mut [u8], out: &mut [u8], table: &[u8]) {
     let mut place = Place {
         from: 0,
         offset: 0,
         frames: 0,
         gathered: 0,
         refused: 0,
+        failed: false,
     };
     let mut held: usize = 0;
     let mut turns = u64::MAX;
     while 0 < turns {
         turns -= 1;
-        let now_held = window::fill(bytes, held);
+        let filled = window::fill(bytes, held);
+        if filled.failed {
+            input_failed();
+            put(out, place.gathered);
+            return;
+        }
+        let now_held = filled.count;
         place = show_window(&bytes[0..now_held], out, table, place);
+        if place.failed {
+            output_failed();
+            return;
+        }
         if (now_held == held) | (1 < place.refused) {
-            return place;
+            finish(out, table, place);
+            return;
         }
         let from = place.from;
         held = window::slide(bytes, from, now_held);
     }
-    place
+    finish(out, table, place);
 }
 
 fn main() {
     let mut bytes = [0u8; WINDOW];
     let mut out = [0u8; GATHERED];
     let mut table = [0u8; TABLE];
-    words::lay(&mut table);
-    let place = show(&mut bytes, &mut out, &table);
-    finish(&mut out, &table, place);
+    table::lay(&mut table);
+    show(&mut bytes, &mut out, &table);
 }

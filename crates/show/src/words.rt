@@ -1,45 +1,17 @@
-// Every line that the program writes, as words with marks, capital letters, where fields stand.
+// A line of the table, with fields in the places of its marks.
 ghost use Prim.Native.Nat.{_≤_};
 ghost use lib.ListN.{length};
 use crate::field;
+use layout::TEXT_ROOM;
 
 // A line by its number in the table, its fields, and the texts that they name. Line 0 is empty.
 pub struct Line {
     pub number: u64,
     pub fields: [i64; 12],
-    pub texts: [u8; 24],
+    pub texts: [u8; TEXT_ROOM],
 }
 
-// The lines of the table that are no record's.
-impl Line {
-    pub const LEVEL: u64 = 1;
-
-    pub const LEVEL_WITHOUT_PRICE: u64 = 4;
-
-    pub const PRICE: u64 = 5;
-
-    pub const SIZE: u64 = 6;
-
-    pub const PRICE_AND_SIZE: u64 = 7;
-
-    pub const NO_LIMIT: u64 = 8;
-
-    pub const UNKNOWN: u64 = 9;
-
-    pub const FIRST_QUANTITY: u64 = 10;
-
-    pub const QUANTITY: u64 = 11;
-
-    pub const STREAM: u64 = 21;
-
-    pub const SWITCH: u64 = 22;
-
-    pub const END: u64 = 32;
-
-    pub const REFUSED: u64 = 33;
-}
-
-pub fn full(texts: [u8; 24], number: u64, fields: [i64; 12]) -> Line {
+pub fn full(texts: [u8; TEXT_ROOM], number: u64, fields: [i64; 12]) -> Line {
     Line {
         number,
         fields,
@@ -48,12 +20,17 @@ pub fn full(texts: [u8; 24], number: u64, fields: [i64; 12]) -> Line {
 }
 
 // A line of at most six fields.
-pub fn short(texts: [u8; 24], number: u64, a: i64, b: i64, c: i64, d: i64, e: i64, f: i64) -> Line {
+pub fn short(
+    texts: [u8; TEXT_ROOM],
+    number: u64,
+    a: i64,
+    b: i64,
+    c: i64,
+    d: i64,
+    e: i64,
+    f: i64,
+) -> Line {
     full(texts, number, [a, b, c, d, e, f, 0, 0, 0, 0, 0, 0])
-}
-
-pub fn empty() -> Line {
-    full([0u8; 24], 0, [0i64; 12])
 }
 
 // The first place from a place on where the line ends or a byte from low to high stands; the end where there is none.
@@ -126,48 +103,4 @@ pub fn write(out: &mut [u8], at: usize, table: &[u8], kind: u32, line: Line) -> 
     let texts = line.texts;
     let from = start(table, line.number);
     walk(out, at, table, from, &fields, kind, &texts)
-}
-
-// Lays the table of all lines. Line 0 is empty; 1 and 4 to 9 are entries, 10 and 11 shown quantities, 2, 3 and 12 to 20
-// records, 21 and 22 groups, 23 to 31 refused records, 32 and 33 the last line. Those that come most often stand first.
-pub fn lay(table: &mut [u8]) {
-    wire::copy(
-        table,
-        0,
-        br#"
-  entry N: type "E", price P, size Q, level N, order count N
-N order: channel N, number N, stream "S", security "S", source "S", price P, quantity Q, side C, time T, order type C
-N trade: channel N, number N, stream "S", bid number N, offer number N, security "S", source "S", price P, quantity Q, execution type C, time T
-  entry N: type "E", price -, size Q, level N, order count N
-  entry N: type "E", price P
-  entry N: type "E", size Q
-  entry N: type "E", price P, size Q
-  entry N: type "E", no limit
-  entry N: type "E", unknown
-, quantities Q
- Q
-N snapshot: time T, channel N, stream "S", security "S", source "S", phase "S", previous close P, trade count N, volume Q, amount P, count N
-N index: time T, channel N, stream "S", security "S", source "S", phase "S", previous close P, trade count N, volume Q, amount P, count N
-N volume index: time T, channel N, stream "S", security "S", source "S", phase "S", previous close P, trade count N, volume Q, amount P, stock number N
-N security status: time T, channel N, security "S", source "S", financial status "S", count N
-N statistics: time T, channel N, count N
-N resend: resend type N, channel N, first N, last N, news id "S", status N, text "S"
-N channel heartbeat: channel N, last number N, end N
-N heartbeat
-N unknown: type N, body length N
-  group N: stream "S", stock number N, phase "S"
-  group N: switch type N, yes/no N
-N order: refused N
-N trade: refused N
-N snapshot: refused N
-N index: refused N
-N volume index: refused N
-N security status: refused N
-N statistics: refused N
-N resend: refused N
-N channel heartbeat: refused N
-N end N
-N refused N
-"#,
-    );
 }

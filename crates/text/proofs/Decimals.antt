@@ -8,7 +8,7 @@ use native.Mathlib.Omega.{arith}
 use borrow.Author.Tests.{le-leb, lt-leb}
 use lib.ListN.{length, take, drop, set}
 use lib.Seq.{set-split, drop-at, length-take-le}
-use Rattle.text.specs.Text.{glyph, decimals, next}
+use Rattle.text.specs.Text.{glyph, decimals, offsetBehind}
 
 drop-set : (l : List ℕ) (i a : ℕ) → i < length l → drop i (set l i a) ≡ a ∷ drop (suc i) l
 drop-set l i a h = rw (set-split l i a h) (drop-at (take i l) (a ∷ drop (suc i) l) i (length-take-le i l (omega arith)))
@@ -50,10 +50,10 @@ the-last l i v h m n =
     let f : suc (i - 1) ≡ i = omega arith in
     rw (last-digit (i - 1) v h, drop-set l (i - 1) (48 + v) (omega arith), f)
 
-pub next-fits : (out : List ℕ) (at : ℕ) (bs : List ℕ) → at + length bs ≤ length out → next out at bs ≡ at + length bs
-unfolding next
+pub next-fits : (out : List ℕ) (at : ℕ) (bs : List ℕ) → at + length bs ≤ length out → offsetBehind out at bs ≡ at + length bs
+unfolding offsetBehind
 next-fits out at bs h = rw (le-leb (at + length bs) (length out) h)
 
-pub next-short : (out : List ℕ) (at : ℕ) (bs : List ℕ) → length out < at + length bs → next out at bs ≡ at
-unfolding next
+pub next-short : (out : List ℕ) (at : ℕ) (bs : List ℕ) → length out < at + length bs → offsetBehind out at bs ≡ at
+unfolding offsetBehind
 next-short out at bs h = rw (lt-leb (at + length bs) (length out) h)

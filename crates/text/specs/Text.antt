@@ -20,5 +20,5 @@ abbrev pub decimalOf : ℕ → List ℕ
 decimalOf v = decimals 19 v
 
 -- O1: the offset behind some bytes at an offset of the output where they fit; else that offset
-unfoldable pub next : List ℕ → ℕ → List ℕ → ℕ
-next out at bs = cond (leb (at + length bs) (length out)) (at + length bs) at
+unfoldable pub offsetBehind : List ℕ → ℕ → List ℕ → ℕ
+offsetBehind out at bs = cond (leb (at + length bs) (length out)) (at + length bs) at

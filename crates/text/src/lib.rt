@@ -1,11 +1,11 @@
 // Text for the programs: bytes and decimal numbers, one behind the other in a lent buffer.
 ghost use mathlib.Core.Path.{_≡_};
-ghost use Rattle.wire.specs.Bytes.{placed};
-ghost use Rattle.text.specs.Text.{decimalOf, next};
+ghost use Rattle.wire.specs.Bytes.{putAt};
+ghost use Rattle.text.specs.Text.{decimalOf, offsetBehind};
 
 // Some bytes at a place; answers the place behind them. Where they don't fit, nothing changes and the place is answered.
 pub fn word(out: &mut [u8], at: usize, bytes: &[u8]) -> usize
-    ensures { λ r. ⌜ (now (out .exit) ≡ placed (now (out .entry)) at (now (bytes .entry))) × (r ≡ next (now (out .entry)) at (now (bytes .entry))) ⌝ }
+    ensures { λ r. ⌜ (now (out .exit) ≡ putAt (now (out .entry)) at (now (bytes .entry))) × (r ≡ offsetBehind (now (out .entry)) at (now (bytes .entry))) ⌝ }
 {
     let n = bytes.len();
     wire::copy(out, at, bytes);
@@ -20,7 +20,7 @@ pub fn word(out: &mut [u8], at: usize, bytes: &[u8]) -> usize
 
 // A number in decimal digits at a place; answers as word does.
 pub fn decimal(out: &mut [u8], at: usize, v: u64) -> usize
-    ensures { λ r. ⌜ (now (out .exit) ≡ placed (now (out .entry)) at (decimalOf v)) × (r ≡ next (now (out .entry)) at (decimalOf v)) ⌝ }
+    ensures { λ r. ⌜ (now (out .exit) ≡ putAt (now (out .entry)) at (decimalOf v)) × (r ≡ offsetBehind (now (out .entry)) at (decimalOf v)) ⌝ }
 {
     let mut digits = [0u8; 20];
     let mut i: usize = 20;

@@ -16,13 +16,15 @@ use Rattle.gaps.proofs.Numbers.{and-split}
 use Rattle.tracker.specs.declared.Tracker.{Tracker}
 use Rattle.seats.specs.declared.Seat.{Seat}
 use Rattle.seats.specs.Places.{firstNumber, span}
-use Rattle.tracker.specs.Places.{channel}
+use Rattle.seats.specs.Arrays.{Arrays}
+use Rattle.seats.specs.Seat.{seatOf}
+use Rattle.tracker.specs.Places.{made, channelAt}
 use Rattle.seats.specs.Rules.{soundRow}
 use Rattle.tracker.specs.Rules.{wellFormed}
 use Rattle.tracker.specs.Arrived.{place}
-use Rattle.tracker.specs.Inside.{Kept}
+use Rattle.tracker.specs.Inside.{SoundIn}
 use Rattle.tracker.specs.FirstRun.{Lost, lost, nothingMissing, foremost, firstRun}
-use Rattle.tracker.proofs.Seated.{well-row, seatIn, seat-sound, seat-place}
+use Rattle.tracker.proofs.Seated.{well-row, seat-sound, seat-place}
 
 -- ---- the refusals in their order
 
@@ -35,28 +37,28 @@ module _ (t : Tracker) (k : ℕ) where
   unfolding firstRun guard
   first-7 p h = rw (p, le-ltb (place t k) (t .count) h)
 
-  first-at : wellFormed t ≡ true → place t k < t .count → firstRun t k ≡ accepted (foremost (channel t (place t k) .runs))
+  first-at : wellFormed t ≡ true → place t k < t .count → firstRun t k ≡ accepted (foremost (channelAt t (place t k) .runs))
   unfolding firstRun guard
   first-at p h = rw (p, lt-ltb (place t k) (t .count) h)
 
 -- by the seat
 
-module _ (t : Tracker) (k : ℕ) (s : Seat) (q : s ≡ seatIn t k) where
-  pub seat-10 : s .sound ≡ false → firstRun t k ≡ refused malformed []
-  seat-10 p = first-10 t k (seat-sound t k s q ∙ p)
+module _ (a : Arrays) (k : ℕ) (s : Seat) (q : s ≡ seatOf k a) where
+  pub seat-10 : s .sound ≡ false → firstRun (made a) k ≡ refused malformed []
+  seat-10 p = first-10 (made a) k (seat-sound a k s q ∙ p)
 
   module _ (p : s .sound ≡ true) where
-    well : wellFormed t ≡ true
-    well = seat-sound t k s q ∙ p
+    well : wellFormed (made a) ≡ true
+    well = seat-sound a k s q ∙ p
 
-    pub seat-7 : t .count ≤ s .at → firstRun t k ≡ refused noSuchChannel []
-    seat-7 h = first-7 t k well (rw (seat-place t k s q well) h)
+    pub seat-7 : a .count ≤ s .at → firstRun (made a) k ≡ refused noSuchChannel []
+    seat-7 h = first-7 (made a) k well (rw (seat-place a k s q well) h)
 
     -- the channel is there, within the places of channels
-    pub seat-at : s .at < t .count → (s .at < 8) × (firstRun t k ≡ accepted (foremost (channel t (s .at) .runs)))
+    pub seat-at : s .at < a .count → (s .at < 8) × (firstRun (made a) k ≡ accepted (foremost (channelAt (made a) (s .at) .runs)))
     seat-at h =
-        let d = seat-place t k s q well in
-        (well-row t well (s .at) h .place, rw d at (first-at t k well (rw d h)))
+        let d = seat-place a k s q well in
+        (well-row (made a) well (s .at) h .place, rw d at (first-at (made a) k well (rw d h)))
 
 -- ---- of the n runs from a place on
 
@@ -88,7 +90,7 @@ lies-in h (s ∷ l) r m e p =
     let z : Lies s = record { low = leb-true 1 (s .first) (a .0); order = leb-true (s .first) (s .last) (b .0); high = omega arith } in
     rw q at z
 
-lies-row : (t : Tracker) (i : ℕ) (r : Run) → Kept t i → foremost (channel t i .runs) ≡ lost r → Lies r
+lies-row : (t : Tracker) (i : ℕ) (r : Run) → SoundIn t i → foremost (channelAt t i .runs) ≡ lost r → Lies r
 unfolding soundRow
 lies-row t i r w p =
     let h : ℕ = getD (t .highest) i 0 in
@@ -100,8 +102,8 @@ lies-row t i r w p =
 
 -- a first run that is answered, or none, is the foremost of the channel's runs
 pub record Foremost (t : Tracker) (k : ℕ) (x : Lost) : Type 0 where
-  pub kept : Kept t (place t k)
-  pub same : foremost (channel t (place t k) .runs) ≡ x
+  pub kept : SoundIn t (place t k)
+  pub same : foremost (channelAt t (place t k) .runs) ≡ x
 
 pub first-of : (t : Tracker) (k : ℕ) (x : Lost) → firstRun t k ≡ accepted x → Foremost t k x
 first-of t k x e = go (wellFormed t) refl (ltb (place t k) (t .count)) refl

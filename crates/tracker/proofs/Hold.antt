@@ -14,7 +14,7 @@ use Rattle.gaps.proofs.Numbers.{lt-or-le}
 use Rattle.gaps.proofs.Sets.{canon-yes, yes-canon, low, has-in}
 use Rattle.seats.specs.Places.{span}
 use Rattle.rows.specs.declared.Held.{Held}
-use Rattle.rows.specs.Held.{leftAt, sought, heldIn}
+use Rattle.rows.specs.Held.{leftAt, sought, search}
 use Rattle.rows.proofs.Row.{yes-there}
 use Rattle.rows.proofs.Found.{held-row}
 use Rattle.tracker.proofs.Told.{Finds, finds-no, finds-run}
@@ -84,5 +84,5 @@ finds-in f l lo h b (suc count) n o =
 
 -- the search of a row within the rules
 pub search-finds : (f l : List ℕ) (i count h n : ℕ) → i < 8 → count ≤ 32 → canon 1 h (span f l (i * 32) count) ≡ true →
-    (s : Held) → s ≡ heldIn f l i count n → Finds f l (i * 32) count n s
+    (s : Held) → s ≡ search f l i count n → Finds f l (i * 32) count n s
 search-finds f l i count h n p q o s e = rw (e, held-row f l i count n (yes-there i count p q)) (finds-in f l 1 h (i * 32) count n o)

@@ -16,8 +16,9 @@ use Rattle.gaps.specs.Built.{firsts, lasts, padded}
 use Rattle.gaps.proofs.Numbers.{and-split}
 use Rattle.tracker.specs.declared.Tracker.{Tracker}
 use Rattle.seats.specs.Places.{span}
-use Rattle.tracker.specs.Places.{mark, channel, put}
-use Rattle.seats.specs.Rules.{allZero, soundRow, soundRows, marks, blank, sound, ascends}
+use Rattle.tracker.specs.Places.{arraysOf, mark, channelAt, put}
+use Rattle.seats.specs.Arrays.{Arrays}
+use Rattle.seats.specs.Rules.{allZero, soundRow, soundRows, soundChannels, marks, blank, unused, sound, ascends}
 use Rattle.tracker.specs.Rules.{wellFormed}
 use Rattle.tracker.specs.SetUp.{blankOf}
 use Rattle.tracker.proofs.Row.{cells, cells-add, cells-length}
@@ -269,7 +270,7 @@ module _ (ns : List ℕ) (cs : List Channel) (w : AllGood cs) where
   last-row : (i : ℕ) → i < length cs → cells (holder ns cs .last) (i * 32) 32 ≡ padded 32 (lasts (at cs i .runs))
   last-row i h = rows-cells lasts lasts-length cs i (replicate (256 - length cs * 32) 0) w h
 
-  pub holder-channel : (i : ℕ) → i < length cs → channel (holder ns cs) i ≡ at cs i
+  pub holder-channel : (i : ℕ) → i < length cs → channelAt (holder ns cs) i ≡ at cs i
   holder-channel i h =
       let g = good-at cs i w h in
       rw (high-at i h, mark-at i h, size-at i h, row-runs (holder ns cs .first) (holder ns cs .last) (i * 32) (at cs i .runs) (g .small) (first-row i h) (last-row i h))
@@ -282,15 +283,16 @@ module _ (ns : List ℕ) (cs : List Channel) (w : AllGood cs) where
 
 -- ---- within the rules
 
-rows-true : (ms hs ks f l ns : List ℕ) (lo i n : ℕ) → i + n ≡ length ns → ascends lo (drop i ns) ≡ true →
-    ((j : ℕ) → j < length ns → getD ms j 0 ≡ getD ns j 0) → ((j : ℕ) → j < length ns → soundRow (getD hs j 0) (getD ks j 0) f l (j * 32) ≡ true) →
-    soundRows ms hs ks f l lo i n ≡ true
+rows-true : (a : Arrays) (ns : List ℕ) (lo i n : ℕ) → i + n ≡ length ns → ascends lo (drop i ns) ≡ true →
+    ((j : ℕ) → j < length ns → getD (a .numbers) j 0 ≡ getD ns j 0) →
+    ((j : ℕ) → j < length ns → soundRow (getD (a .highest) j 0) (getD (a .counts) j 0) (a .first) (a .last) (j * 32) ≡ true) →
+    soundRows a lo i n ≡ true
 unfolding soundRows ascends
-rows-true ms hs ks f l ns lo i zero e a p q = refl
-rows-true ms hs ks f l ns lo i (suc n) e a p q =
+rows-true a ns lo i zero e o p q = refl
+rows-true a ns lo i (suc n) e o p q =
     let h : i < length ns = omega arith in
-    let b = and-split (leb lo (getD ns i 0)) _ (rw (drop-cons ns i 0 h) at a) in
-    rw (p i h, b .0, q i h) (rows-true ms hs ks f l ns (getD ns i 0 + 1) (suc i) n (omega arith) (b .1) p q)
+    let b = and-split (leb lo (getD ns i 0)) _ (rw (drop-cons ns i 0 h) at o) in
+    rw (p i h, b .0, q i h) (rows-true a ns (getD ns i 0 + 1) (suc i) n (omega arith) (b .1) p q)
 
 ending-mark : (cs : List Channel) (n i : ℕ) → getD (endings cs ++ replicate n 0) i 0 ≤ 1
 ending-mark [] n i = rw (getD-pad {A = ℕ} [] n i 0 (omega arith)) (omega arith)
@@ -306,13 +308,13 @@ unfolding marks
 marks-true es i zero h = refl
 marks-true es i (suc n) h = rw (le-leb (getD es i 0) 1 (h i)) (marks-true es (suc i) n h)
 
-blank-true : (ms hs es ks : List ℕ) (i n : ℕ) → ((j : ℕ) → i ≤ j → getD ms j 0 ≡ 0) → ((j : ℕ) → i ≤ j → getD hs j 0 ≡ 0) →
-    ((j : ℕ) → i ≤ j → getD es j 0 ≡ 0) → ((j : ℕ) → i ≤ j → getD ks j 0 ≡ 0) → blank ms hs es ks i n ≡ true
+blank-true : (a : Arrays) (i n : ℕ) → ((j : ℕ) → i ≤ j → getD (a .numbers) j 0 ≡ 0) → ((j : ℕ) → i ≤ j → getD (a .highest) j 0 ≡ 0) →
+    ((j : ℕ) → i ≤ j → getD (a .ended) j 0 ≡ 0) → ((j : ℕ) → i ≤ j → getD (a .counts) j 0 ≡ 0) → blank a i n ≡ true
 unfolding blank
-blank-true ms hs es ks i zero p q r s = refl
-blank-true ms hs es ks i (suc n) p q r s =
+blank-true a i zero p q r s = refl
+blank-true a i (suc n) p q r s =
     rw (p i (omega arith), q i (omega arith), r i (omega arith), s i (omega arith))
-    (blank-true ms hs es ks (suc i) n (λ j h. p j (omega arith)) (λ j h. q j (omega arith)) (λ j h. r j (omega arith)) (λ j h. s j (omega arith)))
+    (blank-true a (suc i) n (λ j h. p j (omega arith)) (λ j h. q j (omega arith)) (λ j h. r j (omega arith)) (λ j h. s j (omega arith)))
 
 -- a list of numbers that a set-up takes
 pub record Listed (ns : List ℕ) : Type 0 where
@@ -321,15 +323,15 @@ pub record Listed (ns : List ℕ) : Type 0 where
   pub order : ascends 0 ns ≡ true
 
 pub holder-well : (ns : List ℕ) (cs : List Channel) → Listed ns → length cs ≡ length ns → AllGood cs → wellFormed (holder ns cs) ≡ true
-unfolding wellFormed sound
+unfolding wellFormed sound soundChannels unused
 holder-well ns cs o e w =
     let t = holder ns cs in
     let n = length ns in
     let d : n * 32 ≡ length cs * 32 = ap (λ (k : ℕ). k * 32) (sym e) in
-    let r = rows-true (t .numbers) (t .highest) (t .counts) (t .first) (t .last) ns 0 0 n (omega arith) (o .order)
+    let r = rows-true (arraysOf t) ns 0 0 n (omega arith) (o .order)
     (λ j h. List·getD-append ns (replicate (8 - length ns) 0) 0 j h)
     (λ j h. holder-row ns cs w j (omega arith)) in
-    let b = blank-true (t .numbers) (t .highest) (t .ended) (t .counts) n (8 - n)
+    let b = blank-true (arraysOf t) n (8 - n)
     (λ j h. getD-pad ns (8 - length ns) j 0 h)
     (λ j h. getD-pad (highs cs) (8 - length (highs cs)) j 0 (omega (arith, length-map cs (λ (c : Channel). c .highest))))
     (λ j h. getD-pad (endings cs) (8 - length (endings cs)) j 0 (omega (arith, length-map cs (λ (c : Channel). mark (c .ended)))))

@@ -15,7 +15,7 @@ use Rattle.wire.specs.Answer.{Answer, accepted, refused, guard}
 use Rattle.gaps.specs.declared.Run.{Run}
 use Rattle.gaps.specs.Gaps.{run, larger, has, cut, cutAll, grow, fill}
 use Rattle.wire.specs.Refusal.{numberTooLow, tableFull}
-use Rattle.gaps.specs.Channel.{Channel, Event, tick, heartbeat, Said, new, late, duplicate, heard, announced, taken, tooLow, judged, natural}
+use Rattle.gaps.specs.Channel.{Channel, Event, tick, heartbeat, ArrivalSaid, new, late, duplicate, heard, announced, taken, tooLow, judgeEvent, natural}
 use Rattle.gaps.proofs.Numbers.{larger-is}
 use Rattle.gaps.proofs.Cut.{cut-low, cut-high, cut-whole, cut-front, cut-back, cut-mid}
 use Rattle.gaps.proofs.Sets.{Canon, canon-yes}
@@ -23,54 +23,43 @@ use Rattle.gaps.proofs.Exact.{ticked-new, ticked-late, ticked-again}
 use Rattle.gaps.proofs.Alone.{judged-low}
 use Rattle.tracker.specs.declared.Tracker.{Tracker}
 use Rattle.rows.specs.declared.Gap.{Gap}
-use Rattle.tracker.specs.Places.{mark, channel, put}
+use Rattle.tracker.specs.Places.{made, mark, channelAt, put}
 use Rattle.seats.specs.declared.Seat.{Seat}
-use Rattle.tracker.specs.declared.Verdict.the-variants.{NoSuchChannel, NumberTooLow, Malformed}
+use Rattle.seats.specs.Arrays.{Arrays}
+use Rattle.seats.specs.Seat.{seatOf}
+use Rattle.tracker.specs.declared.Verdict.the-variants.{Late, NoSuchChannel, NumberTooLow, TableFull, Malformed}
 use Rattle.tracker.specs.declared.Verdict.{Verdict}
 use Rattle.tracker.specs.declared.Judged.{Judged}
 use Rattle.tracker.specs.declared.Judged.the-variants.{Refused, At}
 use Rattle.tracker.specs.Rules.{wellFormed}
-use Rattle.tracker.specs.Arrived.{Outcome, on, place, settled, arrived, answered}
+use Rattle.tracker.specs.Arrived.{Outcome, on, place, settled, arrive, answered}
 use Rattle.rows.specs.declared.Held.{Held}
 use Rattle.rows.specs.declared.Held.the-variants.{No, AtEnd, Alone, Inside}
-use Rattle.rows.specs.Held.{leftAt}
-use Rattle.tracker.specs.Inside.{made, Kept, Judges, stored}
+use Rattle.rows.specs.Held.{leftAt, search}
+use Rattle.tracker.specs.Inside.{SoundIn, Judges, stepped, storedOrFull, raising, Changeable, relaid, replaced, shut, cleft, lateAs}
 use Rattle.tracker.proofs.Told.{Room, Finds, finds-no, finds-run}
 use Rattle.tracker.proofs.Row.{span-length, span-at}
-use Rattle.tracker.proofs.Hold.{held-at}
+use Rattle.tracker.proofs.Hold.{held-at, search-finds}
 use Rattle.tracker.proofs.Signed.{natural-one, natural-pos}
-use Rattle.tracker.proofs.Seated.{well-row, arrived-10, arrived-7, arrived-at, seatIn, seat-sound, seat-place}
-use Rattle.tracker.proofs.Put.{RowOf, mended, mark-same, put-pushed, put-set, put-runs, put-same, kept-within}
-use Rattle.tracker.proofs.Shift.{shut, cleft, parts-length, put-shut, put-cleft}
-
--- the tracker with another run at one place
-abbrev pub replaced : Tracker → ℕ → ℕ → ℕ → Tracker
-replaced t p first last =
-    record {
-      count = t .count;
-      numbers = t .numbers;
-      highest = t .highest;
-      ended = t .ended;
-      counts = t .counts;
-      first = set (t .first) p first;
-      last = set (t .last) p last;
-    }
+use Rattle.tracker.proofs.Seated.{well-row, arrived-10, arrived-7, arrived-at, seat-sound, seat-place}
+use Rattle.tracker.proofs.Put.{RowOf, mended, mark-same, put-pushed, put-set, put-runs, put-same, kept-row}
+use Rattle.tracker.proofs.Shift.{parts-length, put-shut, put-cleft}
 
 -- ---- stored: 9, or the record
 
-module _ (t : Tracker) (i : ℕ) (a : Answer Said) (h : ℕ) (e : Bool) (l : List Run) where
-  pub stored-full : 32 < length l → stored t i a h e l ≡ record { said = refused tableFull []; next = t }
-  unfolding stored
+module _ (t : Tracker) (i : ℕ) (a : Answer ArrivalSaid) (h : ℕ) (e : Bool) (l : List Run) where
+  pub stored-full : 32 < length l → storedOrFull t i a h e l ≡ record { said = refused tableFull []; next = t }
+  unfolding storedOrFull
   stored-full p = rw (lt-ltb 32 (length l) p)
 
-  pub stored-fits : length l ≤ 32 → stored t i a h e l ≡ record { said = a; next = put t i (record { highest = h; ended = e; runs = l }) }
-  unfolding stored
+  pub stored-fits : length l ≤ 32 → storedOrFull t i a h e l ≡ record { said = a; next = put t i (record { highest = h; ended = e; runs = l }) }
+  unfolding storedOrFull
   stored-fits p = rw (le-ltb 32 (length l) p)
 
 -- an event that 8 does not refuse
 settled-stored : (t : Tracker) (i : ℕ) (c : Channel) (e : Event) → tooLow e ≡ false →
-    settled t i (judged c e) ≡ stored t i (accepted (taken c e .said)) (taken c e .next .highest) (taken c e .next .ended) (taken c e .next .runs)
-unfolding judged stored guard
+    settled t i (judgeEvent c e) ≡ storedOrFull t i (accepted (taken c e .said)) (taken c e .next .highest) (taken c e .next .ended) (taken c e .next .runs)
+unfolding judgeEvent storedOrFull guard
 settled-stored t i c e p = rw p (go (ltb 32 (length (taken c e .next .runs))))
   where
     go : (b : Bool) → settled t i (guard b (refused tableFull []) (accepted (taken c e))) ≡
@@ -78,7 +67,7 @@ settled-stored t i c e p = rw p (go (ltb 32 (length (taken c e .next .runs))))
     go true = refl
     go false = refl
 
-pub settled-low : (t : Tracker) (i : ℕ) (c : Channel) (e : Event) → tooLow e ≡ true → settled t i (judged c e) ≡ record { said = refused numberTooLow []; next = t }
+pub settled-low : (t : Tracker) (i : ℕ) (c : Channel) (e : Event) → tooLow e ≡ true → settled t i (judgeEvent c e) ≡ record { said = refused numberTooLow []; next = t }
 settled-low t i c e p = ap (settled t i) (judged-low c e p)
 
 -- ---- a run's place in the row, where it is grown
@@ -94,26 +83,26 @@ fill-some l h m p = rw (lt-leb m h p)
 
 module _ (t : Tracker) (i : ℕ) (w : RowOf t i) where
   -- the numbers behind the highest go to one place of the row
-  pub raised : (a : Answer Said) (top : ℕ) (e : Bool) (m : ℕ) (g : Gap) → Room (t .first) (t .last) (i * 32) (getD (t .counts) i 0) (getD (t .highest) i 0) g →
-      stored t i a top e (grow (channel t i .runs) (channel t i .highest) m) ≡ record { said = a; next = mended t i top e (g .at + 1) (i * 32 + g .at) (run (g .first) m) }
+  pub raised : (a : Answer ArrivalSaid) (top : ℕ) (e : Bool) (m : ℕ) (g : Gap) → Room (t .first) (t .last) (i * 32) (getD (t .counts) i 0) (getD (t .highest) i 0) g →
+      storedOrFull t i a top e (grow (channelAt t i .runs) (channelAt t i .highest) m) ≡ record { said = a; next = mended t i top e (g .at + 1) (i * 32 + g .at) (run (g .first) m) }
   raised a top e m g r =
-      let l = take (g .at) (channel t i .runs) ++ (run (g .first) m ∷ []) in
-      let n : length l ≤ 32 = rw (length-append (take (g .at) (channel t i .runs)) (run (g .first) m ∷ []), length-take-le (g .at) (channel t i .runs) (rw (span-length (t .first) (t .last) (i * 32) (getD (t .counts) i 0)) (r .low))) (omega (arith, r .within)) in
+      let l = take (g .at) (channelAt t i .runs) ++ (run (g .first) m ∷ []) in
+      let n : length l ≤ 32 = rw (length-append (take (g .at) (channelAt t i .runs)) (run (g .first) m ∷ []), length-take-le (g .at) (channelAt t i .runs) (rw (span-length (t .first) (t .last) (i * 32) (getD (t .counts) i 0)) (r .low))) (omega (arith, r .within)) in
       rw (r .grown m, stored-fits t i a top e l n, put-pushed t i w top e (g .at) (run (g .first) m) (r .low) (r .high) (r .within))
 
-  runs-fit : length (channel t i .runs) ≤ 32
+  runs-fit : length (channelAt t i .runs) ≤ 32
   runs-fit = rw (span-length (t .first) (t .last) (i * 32) (getD (t .counts) i 0)) (w .room)
 
   module _ (n : ℕ) (p : 1 ≤ n) where
     in-range : tooLow (tick (pos n)) ≡ false
     in-range = le-ltb n 1 p
 
-    ahead : getD (t .highest) i 0 < n → settled t i (judged (channel t i) (tick (pos n))) ≡
-        stored t i (accepted new) n (channel t i .ended) (fill (channel t i .runs) (channel t i .highest) (n - 1))
-    ahead h = settled-stored t i (channel t i) (tick (pos n)) in-range ∙ rw (ticked-new (channel t i) n h)
+    ahead : getD (t .highest) i 0 < n → stepped i (tick (pos n)) t ≡
+        storedOrFull t i (accepted new) n (channelAt t i .ended) (fill (channelAt t i .runs) (channelAt t i .highest) (n - 1))
+    ahead h = settled-stored t i (channelAt t i) (tick (pos n)) in-range ∙ rw (ticked-new (channelAt t i) n h)
 
     -- the next number: the highest alone changes
-    pub tick-next : getD (t .highest) i 0 ≡ n - 1 → settled t i (judged (channel t i) (tick (pos n))) ≡
+    pub tick-next : getD (t .highest) i 0 ≡ n - 1 → stepped i (tick (pos n)) t ≡
         record {
           said = accepted new;
           next = record {
@@ -128,40 +117,40 @@ module _ (t : Tracker) (i : ℕ) (w : RowOf t i) where
         }
     tick-next h =
         ahead (omega arith)
-        ∙ rw (fill-none (channel t i .runs) (channel t i .highest) (n - 1) (omega arith), stored-fits t i (accepted new) n (channel t i .ended) (channel t i .runs) runs-fit, put-runs t i w n (channel t i .ended), mark-same (t .ended) i (w .mark))
+        ∙ rw (fill-none (channelAt t i .runs) (channelAt t i .highest) (n - 1) (omega arith), stored-fits t i (accepted new) n (channelAt t i .ended) (channelAt t i .runs) runs-fit, put-runs t i w n (channelAt t i .ended), mark-same (t .ended) i (w .mark))
 
-    pub tick-ahead : getD (t .highest) i 0 < n - 1 → settled t i (judged (channel t i) (tick (pos n))) ≡
-        stored t i (accepted new) n (channel t i .ended) (grow (channel t i .runs) (channel t i .highest) (n - 1))
-    tick-ahead h = ahead (omega arith) ∙ rw (fill-some (channel t i .runs) (channel t i .highest) (n - 1) h)
+    pub tick-ahead : getD (t .highest) i 0 < n - 1 → stepped i (tick (pos n)) t ≡
+        storedOrFull t i (accepted new) n (channelAt t i .ended) (grow (channelAt t i .runs) (channelAt t i .highest) (n - 1))
+    tick-ahead h = ahead (omega arith) ∙ rw (fill-some (channelAt t i .runs) (channelAt t i .highest) (n - 1) h)
 
-    pub tick-late : n ≤ getD (t .highest) i 0 → has (channel t i .runs) n ≡ true → settled t i (judged (channel t i) (tick (pos n))) ≡
-        stored t i (accepted late) (channel t i .highest) (channel t i .ended) (cutAll (channel t i .runs) n)
-    tick-late h q = settled-stored t i (channel t i) (tick (pos n)) in-range ∙ rw (ticked-late (channel t i) n h q)
+    pub tick-late : n ≤ getD (t .highest) i 0 → has (channelAt t i .runs) n ≡ true → stepped i (tick (pos n)) t ≡
+        storedOrFull t i (accepted late) (channelAt t i .highest) (channelAt t i .ended) (cutAll (channelAt t i .runs) n)
+    tick-late h q = settled-stored t i (channelAt t i) (tick (pos n)) in-range ∙ rw (ticked-late (channelAt t i) n h q)
 
-    pub tick-again : n ≤ getD (t .highest) i 0 → has (channel t i .runs) n ≡ false → settled t i (judged (channel t i) (tick (pos n))) ≡ record { said = accepted duplicate; next = t }
+    pub tick-again : n ≤ getD (t .highest) i 0 → has (channelAt t i .runs) n ≡ false → stepped i (tick (pos n)) t ≡ record { said = accepted duplicate; next = t }
     tick-again h q =
-        settled-stored t i (channel t i) (tick (pos n)) in-range
-        ∙ rw (ticked-again (channel t i) n h q, stored-fits t i (accepted duplicate) (channel t i .highest) (channel t i .ended) (channel t i .runs) runs-fit, put-same t i w)
+        settled-stored t i (channelAt t i) (tick (pos n)) in-range
+        ∙ rw (ticked-again (channelAt t i) n h q, stored-fits t i (accepted duplicate) (channelAt t i .highest) (channelAt t i .ended) (channelAt t i .runs) runs-fit, put-same t i w)
 
   module _ (m : ℕ) (end : Bool) where
-    heard-at : settled t i (judged (channel t i) (heartbeat (pos m) end)) ≡
-        stored t i (accepted heard) (larger (channel t i .highest) m) (channel t i .ended || end) (fill (channel t i .runs) (channel t i .highest) m)
+    heard-at : stepped i (heartbeat (pos m) end) t ≡
+        storedOrFull t i (accepted heard) (larger (channelAt t i .highest) m) (channelAt t i .ended || end) (fill (channelAt t i .runs) (channelAt t i .highest) m)
     unfolding announced
-    heard-at = settled-stored t i (channel t i) (heartbeat (pos m) end) (le-ltb m 0 zero-le)
+    heard-at = settled-stored t i (channelAt t i) (heartbeat (pos m) end) (le-ltb m 0 zero-le)
 
-    pub heard-ahead : getD (t .highest) i 0 < m → settled t i (judged (channel t i) (heartbeat (pos m) end)) ≡
-        stored t i (accepted heard) m (channel t i .ended || end) (grow (channel t i .runs) (channel t i .highest) m)
-    heard-ahead h = heard-at ∙ rw (fill-some (channel t i .runs) (channel t i .highest) m h, larger-is (channel t i .highest) m m (omega arith) (omega arith) (inr refl))
+    pub heard-ahead : getD (t .highest) i 0 < m → stepped i (heartbeat (pos m) end) t ≡
+        storedOrFull t i (accepted heard) m (channelAt t i .ended || end) (grow (channelAt t i .runs) (channelAt t i .highest) m)
+    heard-ahead h = heard-at ∙ rw (fill-some (channelAt t i .runs) (channelAt t i .highest) m h, larger-is (channelAt t i .highest) m m (omega arith) (omega arith) (inr refl))
 
     -- nothing new is announced: the mark alone may change
-    pub heard-behind : m ≤ getD (t .highest) i 0 → settled t i (judged (channel t i) (heartbeat (pos m) end)) ≡
+    pub heard-behind : m ≤ getD (t .highest) i 0 → stepped i (heartbeat (pos m) end) t ≡
         record {
           said = accepted heard;
           next = record {
             count = t .count;
             numbers = t .numbers;
             highest = t .highest;
-            ended = set (t .ended) i (mark (channel t i .ended || end));
+            ended = set (t .ended) i (mark (channelAt t i .ended || end));
             counts = t .counts;
             first = t .first;
             last = t .last;
@@ -170,10 +159,10 @@ module _ (t : Tracker) (i : ℕ) (w : RowOf t i) where
     heard-behind h =
         heard-at
         ∙ rw (
-          fill-none (channel t i .runs) (channel t i .highest) m h,
-          larger-is (channel t i .highest) m (channel t i .highest) (omega arith) h (inl refl),
-          stored-fits t i (accepted heard) (channel t i .highest) (channel t i .ended || end) (channel t i .runs) runs-fit,
-          put-runs t i w (channel t i .highest) (channel t i .ended || end),
+          fill-none (channelAt t i .runs) (channelAt t i .highest) m h,
+          larger-is (channelAt t i .highest) m (channelAt t i .highest) (omega arith) h (inl refl),
+          stored-fits t i (accepted heard) (channelAt t i .highest) (channelAt t i .ended || end) (channelAt t i .runs) runs-fit,
+          put-runs t i w (channelAt t i .highest) (channelAt t i .ended || end),
           set-getD (t .highest) i 0,
         )
 
@@ -203,19 +192,19 @@ module _ (t : Tracker) (i n j : ℕ) (x : Run) (w : RowOf t i) (m : j < getD (t 
   -- the run at place j is left as another
   pub tick-end : getD (t .first) (i * 32 + j) 0 ≤ n → n ≤ getD (t .last) (i * 32 + j) 0 →
       cut (run (getD (t .first) (i * 32 + j) 0) (getD (t .last) (i * 32 + j) 0)) n ≡ x ∷ [] →
-      stored t i (accepted late) (channel t i .highest) (channel t i .ended) (cutAll (channel t i .runs) n) ≡
+      storedOrFull t i (accepted late) (channelAt t i .highest) (channelAt t i .ended) (cutAll (channelAt t i .runs) n) ≡
       record { said = accepted late; next = replaced t (i * 32 + j) (x .first) (x .last) }
   tick-end f g k =
-      let l = channel t i .runs in
+      let l = channelAt t i .runs in
       let s = span-length (t .first) (t .last) (i * 32) (getD (t .counts) i 0) in
       let a = span-at (t .first) (t .last) (i * 32) (getD (t .counts) i 0) j m in
       let c : cutAll l n ≡ set l j x =
-      cut-at 1 (channel t i .highest) l j n (canon-yes 1 (channel t i .highest) l (w .order)) (rw s m) (rw a f) (rw a g)
+      cut-at 1 (channelAt t i .highest) l j n (canon-yes 1 (channelAt t i .highest) l (w .order)) (rw s m) (rw a f) (rw a g)
       ∙ rw (a, k) (sym (set-split l j x (rw s m))) in
       rw (
         c,
-        stored-fits t i (accepted late) (channel t i .highest) (channel t i .ended) (set l j x) (rw (length-set l j x, s) (w .room)),
-        put-set t i w (channel t i .highest) (channel t i .ended) j x m,
+        stored-fits t i (accepted late) (channelAt t i .highest) (channelAt t i .ended) (set l j x) (rw (length-set l j x, s) (w .room)),
+        put-set t i w (channelAt t i .highest) (channelAt t i .ended) j x m,
         set-getD (t .highest) i 0,
         mark-same (t .ended) i (w .mark),
         set-getD (t .counts) i 0,
@@ -228,22 +217,22 @@ module _ (t : Tracker) (i n j : ℕ) (w : RowOf t i) (a : i < 8) (m : j < getD (
   abbrev held : Run
   held = run (getD (t .first) (i * 32 + j) 0) (getD (t .last) (i * 32 + j) 0)
 
-  cut-there : (xs : List Run) → cut held n ≡ xs → cutAll (channel t i .runs) n ≡ take j (channel t i .runs) ++ (xs ++ drop (suc j) (channel t i .runs))
+  cut-there : (xs : List Run) → cut held n ≡ xs → cutAll (channelAt t i .runs) n ≡ take j (channelAt t i .runs) ++ (xs ++ drop (suc j) (channelAt t i .runs))
   cut-there xs k =
-      let l = channel t i .runs in
+      let l = channelAt t i .runs in
       let s = span-length (t .first) (t .last) (i * 32) (getD (t .counts) i 0) in
       let d = span-at (t .first) (t .last) (i * 32) (getD (t .counts) i 0) j m in
-      cut-at 1 (channel t i .highest) l j n (canon-yes 1 (channel t i .highest) l (w .order)) (rw s m) (rw d f) (rw d g) ∙ rw (d, k)
+      cut-at 1 (channelAt t i .highest) l j n (canon-yes 1 (channelAt t i .highest) l (w .order)) (rw s m) (rw d f) (rw d g) ∙ rw (d, k)
 
   pub tick-shut : cut held n ≡ [] →
-      stored t i (accepted late) (channel t i .highest) (channel t i .ended) (cutAll (channel t i .runs) n) ≡ record { said = accepted late; next = shut t i (i * 32 + j) }
+      storedOrFull t i (accepted late) (channelAt t i .highest) (channelAt t i .ended) (cutAll (channelAt t i .runs) n) ≡ record { said = accepted late; next = shut t i (i * 32 + j) }
   tick-shut k =
-      let l = take j (channel t i .runs) ++ drop (suc j) (channel t i .runs) in
-      let c : cutAll (channel t i .runs) n ≡ l = cut-there [] k in
+      let l = take j (channelAt t i .runs) ++ drop (suc j) (channelAt t i .runs) in
+      let c : cutAll (channelAt t i .runs) n ≡ l = cut-there [] k in
       rw (
         c,
-        stored-fits t i (accepted late) (channel t i .highest) (channel t i .ended) l (rw (parts-length t i w a j m []) (omega (arith, w .room))),
-        put-shut t i w a j m (channel t i .highest) (channel t i .ended),
+        stored-fits t i (accepted late) (channelAt t i .highest) (channelAt t i .ended) l (rw (parts-length t i w a j m []) (omega (arith, w .room))),
+        put-shut t i w a j m (channelAt t i .highest) (channelAt t i .ended),
         set-getD (t .highest) i 0,
         mark-same (t .ended) i (w .mark),
       )
@@ -253,53 +242,50 @@ module _ (t : Tracker) (i n j : ℕ) (w : RowOf t i) (a : i < 8) (m : j < getD (
     both = run (getD (t .first) (i * 32 + j) 0) (n - 1) ∷ run (n + 1) (getD (t .last) (i * 32 + j) 0) ∷ []
 
     abbrev parted : List Run
-    parted = take j (channel t i .runs) ++ (both ++ drop (suc j) (channel t i .runs))
+    parted = take j (channelAt t i .runs) ++ (both ++ drop (suc j) (channelAt t i .runs))
 
     pub tick-cleft : getD (t .counts) i 0 < 32 →
-        stored t i (accepted late) (channel t i .highest) (channel t i .ended) (cutAll (channel t i .runs) n) ≡ record { said = accepted late; next = cleft t i (i * 32 + j) n }
+        storedOrFull t i (accepted late) (channelAt t i .highest) (channelAt t i .ended) (cutAll (channelAt t i .runs) n) ≡ record { said = accepted late; next = cleft t i (i * 32 + j) n }
     tick-cleft h =
         rw (
           cut-there both k,
-          stored-fits t i (accepted late) (channel t i .highest) (channel t i .ended) parted (rw (parts-length t i w a j m both) (omega arith)),
-          put-cleft t i w a j m n h (channel t i .highest) (channel t i .ended),
+          stored-fits t i (accepted late) (channelAt t i .highest) (channelAt t i .ended) parted (rw (parts-length t i w a j m both) (omega arith)),
+          put-cleft t i w a j m n h (channelAt t i .highest) (channelAt t i .ended),
           set-getD (t .highest) i 0,
           mark-same (t .ended) i (w .mark),
         )
 
     pub tick-full : getD (t .counts) i 0 ≡ 32 →
-        stored t i (accepted late) (channel t i .highest) (channel t i .ended) (cutAll (channel t i .runs) n) ≡ record { said = refused tableFull []; next = t }
+        storedOrFull t i (accepted late) (channelAt t i .highest) (channelAt t i .ended) (cutAll (channelAt t i .runs) n) ≡ record { said = refused tableFull []; next = t }
     tick-full h =
-        rw (cut-there both k) (stored-full t i (accepted late) (channel t i .highest) (channel t i .ended) parted (rw (parts-length t i w a j m both) (omega arith)))
+        rw (cut-there both k) (stored-full t i (accepted late) (channelAt t i .highest) (channelAt t i .ended) parted (rw (parts-length t i w a j m both) (omega arith)))
 
 -- ---- a number that is not above the highest, by what the search found
 
--- what a tick of n is answered, and the next tracker
-abbrev Gives : Tracker → ℕ → ℕ → Answer Said → Tracker → Type 0
-Gives t i n v u = settled t i (judged (channel t i) (tick (pos n))) ≡ record { said = v; next = u }
-
--- the places are the row's
+-- there is a run to change, and this is the tick's answer and the next tracker
 abbrev pub Behind : Tracker → ℕ → ℕ → Held → Type 0
-Behind t i n No = Gives t i n (accepted duplicate) t
-Behind t i n (AtEnd p first last) = (p < i * 32 + 32) × Gives t i n (accepted late) (replaced t p first last)
-Behind t i n (Alone p) = (1 ≤ getD (t .counts) i 0) × Gives t i n (accepted late) (shut t i p)
-Behind t i n (Inside p) =
-    (p < i * 32 + 32) × (getD (t .counts) i 0 < 32 → Gives t i n (accepted late) (cleft t i p n)) × (getD (t .counts) i 0 ≡ 32 → Gives t i n (refused tableFull []) t)
+Behind t i n s = Changeable s (getD (t .counts) i 0) × (stepped i (tick (pos n)) t ≡ lateAs s i n t)
 
-pub behind : (t : Tracker) (i n : ℕ) → RowOf t i → i < 8 → 1 ≤ n → n ≤ getD (t .highest) i 0 → (s : Held) →
+behind : (t : Tracker) (i n : ℕ) → RowOf t i → i < 8 → 1 ≤ n → n ≤ getD (t .highest) i 0 → (s : Held) →
     Finds (t .first) (t .last) (i * 32) (getD (t .counts) i 0) n s → Behind t i n s
 unfolding leftAt
-behind t i n w a p h s (finds-no e) = tick-again t i w n p h e
+behind t i n w a p h s (finds-no e) = (tt, tick-again t i w n p h e)
 behind t i n w a p h s (finds-run j m f g) =
     go (ltb n (r .first)) refl (eqb n (r .first)) refl (ltb n (r .last)) refl (eqb n (r .last)) refl
   where
     r : Run
     r = run (getD (t .first) (i * 32 + j) 0) (getD (t .last) (i * 32 + j) 0)
 
-    late-by : {o : Outcome} → stored t i (accepted late) (channel t i .highest) (channel t i .ended) (cutAll (channel t i .runs) n) ≡ o → settled t i (judged (channel t i) (tick (pos n))) ≡ o
+    late-by : {o : Outcome} → storedOrFull t i (accepted late) (channelAt t i .highest) (channelAt t i .ended) (cutAll (channelAt t i .runs) n) ≡ o → stepped i (tick (pos n)) t ≡ o
     late-by e = tick-late t i w n p h (held-at (t .first) (t .last) (i * 32) (getD (t .counts) i 0) j n m f g) ∙ e
 
-    in-row : i * 32 + j < i * 32 + 32
+    in-row : i * 32 + j < 256
     in-row = omega (arith, w .room)
+
+    full : (b : Bool) → eqb (getD (t .counts) i 0) 32 ≡ b → cut r n ≡ run (r .first) (n - 1) ∷ run (n + 1) (r .last) ∷ [] →
+        stepped i (tick (pos n)) t ≡ cond b (answered TableFull t) (answered Late (cleft t i (i * 32 + j) n))
+    full true e k = late-by (tick-full t i n j w a m f g k (eqb-true (getD (t .counts) i 0) 32 e))
+    full false e k = late-by (tick-cleft t i n j w a m f g k (omega (arith, w .room, eqb-false (getD (t .counts) i 0) 32 e)))
 
     go : (x : Bool) → ltb n (r .first) ≡ x → (y : Bool) → eqb n (r .first) ≡ y → (z : Bool) → ltb n (r .last) ≡ z → (v : Bool) → eqb n (r .last) ≡ v →
         Behind t i n (cond x No (cond y (cond z (AtEnd (i * 32 + j) (n + 1) (r .last)) (Alone (i * 32 + j))) (cond v (AtEnd (i * 32 + j) (r .first) (n - 1)) (Inside (i * 32 + j)))))
@@ -308,37 +294,44 @@ behind t i n w a p h s (finds-run j m f g) =
     go false b true c false d v e = (omega arith, late-by (tick-shut t i n j w a m f g (cut-whole r n (eqb-true n (r .first) c) (omega (arith, ltb-false n (r .last) d)))))
     go false b false c z d true e = (in-row, late-by (tick-end t i n j (run (r .first) (n - 1)) w m f g (cut-back r n (omega (arith, eqb-false n (r .first) c)) (eqb-true n (r .last) e))))
     go false b false c z d false e =
-        let k = cut-mid r n (omega (arith, eqb-false n (r .first) c)) (omega (arith, eqb-false n (r .last) e)) in
-        (in-row, (λ q. late-by (tick-cleft t i n j w a m f g k q)), λ q. late-by (tick-full t i n j w a m f g k q))
+        (in-row, full (eqb (getD (t .counts) i 0) 32) refl (cut-mid r n (omega (arith, eqb-false n (r .first) c)) (omega (arith, eqb-false n (r .last) e))))
 
--- what is left in lent arrays
-pub laid-as : (v : Verdict) (k : ℕ) (ns h e : List ℕ) {c c′ f f′ l l′ : List ℕ} → c ≡ c′ → f ≡ f′ → l ≡ l′ →
-    answered v (made k ns h e c f l) ≡ answered v (made k ns h e c′ f′ l′)
-laid-as v k ns h e p q r = λ m. answered v (made k ns h e (p m) (q m) (r m))
+-- by what the search answered
+pub sought : (t : Tracker) (i n : ℕ) → SoundIn t i → 1 ≤ n → n ≤ getD (t .highest) i 0 → (s : Held) → s ≡ search (t .first) (t .last) i (getD (t .counts) i 0) n → Behind t i n s
+sought t i n k p h s e =
+    let w = kept-row k in
+    behind t i n w (k .place) p h s (search-finds (t .first) (t .last) i (getD (t .counts) i 0) (getD (t .highest) i 0) n (k .place) (w .room) (w .order) s e)
 
-pub told-behind : (t : Tracker) (i n : ℕ) (x s : Held) → Behind t i n s → s ≡ x → Behind t i n x
-told-behind t i n x s w e = rw e at w
+-- what was found is this
+pub told-fits : (count : ℕ) {x s : Held} → s ≡ x → Changeable s count → Changeable x count
+told-fits count {x} {s} e w = rw e at w
+
+-- runs laid anew
+pub laid-as : (v : Verdict) (t : Tracker) {c c′ f f′ l l′ : List ℕ} → c ≡ c′ → f ≡ f′ → l ≡ l′ → answered v (relaid t c f l) ≡ answered v (relaid t c′ f′ l′)
+laid-as v t p q r = λ m. answered v (relaid t (p m) (q m) (r m))
 
 -- ---- an arrival's refusals by its channel's seat
 
-module _ (t : Tracker) (k : ℕ) (low : Bool) (s : Seat) (q : s ≡ seatIn t k) where
-  pub judges-10 : s .sound ≡ false → Judges t k low (Refused Malformed)
-  judges-10 p = λ e z. arrived-10 t k e (seat-sound t k s q ∙ p)
+module _ (a : Arrays) (k : ℕ) (s : Seat) (q : s ≡ seatOf k a) (low : Bool) where
+  pub judges-10 : s .sound ≡ false → Judges (made a) k low (Refused Malformed)
+  judges-10 p = λ e z. arrived-10 (made a) k e (seat-sound a k s q ∙ p)
 
   module _ (p : s .sound ≡ true) where
-    well : wellFormed t ≡ true
-    well = seat-sound t k s q ∙ p
+    well : wellFormed (made a) ≡ true
+    well = seat-sound a k s q ∙ p
 
-    pub judges-7 : t .count ≤ s .at → Judges t k low (Refused NoSuchChannel)
-    judges-7 h = λ e z. arrived-7 t k e well (rw (seat-place t k s q well) h)
+    pub judges-7 : a .count ≤ s .at → Judges (made a) k low (Refused NoSuchChannel)
+    judges-7 h = λ e z. arrived-7 (made a) k e well (rw (seat-place a k s q well) h)
 
-    pub judges-8 : s .at < t .count → low ≡ true → Judges t k low (Refused NumberTooLow)
-    judges-8 h l = λ e z. arrived-at t k e well (rw (seat-place t k s q well) h) ∙ settled-low t (place t k) (channel t (place t k)) e (z ∙ l)
+    pub judges-8 : s .at < a .count → low ≡ true → Judges (made a) k low (Refused NumberTooLow)
+    judges-8 h l =
+        let t = made a in
+        λ e z. arrived-at t k e well (rw (seat-place a k s q well) h) ∙ settled-low t (place t k) (channelAt t (place t k)) e (z ∙ l)
 
-    pub judges-at : s .at < t .count → low ≡ false → Judges t k low (At (s .at))
+    pub judges-at : s .at < a .count → low ≡ false → Judges (made a) k low (At (s .at))
     judges-at h l =
-        let d = seat-place t k s q well in
-        (l, well-row t well (s .at) h, λ e. (rw d at (arrived-at t k e well (rw d h))))
+        let d = seat-place a k s q well in
+        (l, well-row (made a) well (s .at) h, λ e. (rw d at (arrived-at (made a) k e well (rw d h))))
 
 -- what the judge's answer tells
 module _ (t : Tracker) (k : ℕ) (low : Bool) where
@@ -350,21 +343,14 @@ module _ (t : Tracker) (k : ℕ) (low : Bool) where
 
 -- ---- from a place to its judgement, for numbers as the code holds them
 
--- whatever the count of channels and their numbers
-pub kept-named : (k m : ℕ) (ns ms h e c f l : List ℕ) (i : ℕ) → Kept (made k ns h e c f l) i → Kept (made m ms h e c f l) i
-kept-named k m ns ms h e c f l i w = record { place = w .place; mark = w .mark; row = w .row }
-
 module _ (t : Tracker) (k : ℕ) (low : Bool) (i : ℕ) (w : Judges t k low (At i)) where
-  pub seat-row : RowOf t i
-  seat-row = kept-within t i (w .1)
-
-  pub tick-seat : (z : ℤ) (n : ℕ) → n ≡ natural z → 1 ≤ n → arrived t (on k (tick z)) ≡ settled t i (judged (channel t i) (tick (pos n)))
+  pub tick-seat : (z : ℤ) (n : ℕ) → n ≡ natural z → 1 ≤ n → arrive t (on k (tick z)) ≡ stepped i (tick (pos n)) t
   tick-seat z n e p =
       let d : z ≡ pos n = natural-one z (rw e at p) ∙ ap pos (sym e) in
-      w .2 (tick z) ∙ ap (λ (y : ℤ). settled t i (judged (channel t i) (tick y))) d
+      w .2 (tick z) ∙ ap (λ (y : ℤ). stepped i (tick y) t) d
 
   pub heartbeat-seat : (z : ℤ) (end : Bool) (m : ℕ) → m ≡ natural z → ltZ z (pos 0) ≡ false →
-      arrived t (on k (heartbeat z end)) ≡ settled t i (judged (channel t i) (heartbeat (pos m) end))
+      arrive t (on k (heartbeat z end)) ≡ stepped i (heartbeat (pos m) end) t
   heartbeat-seat z end m e p =
       let d : z ≡ pos m = natural-pos z p ∙ ap pos (sym e) in
-      w .2 (heartbeat z end) ∙ ap (λ (y : ℤ). settled t i (judged (channel t i) (heartbeat y end))) d
+      w .2 (heartbeat z end) ∙ ap (λ (y : ℤ). stepped i (heartbeat y end) t) d

@@ -2,7 +2,7 @@
 use Prim.Native.Nat.{ℕ, zero, suc, _+_, _*_, _-_, _≤_, _<_}
 use native.Mathlib.Omega.{arith}
 use mathlib.Core.Path.{_≡_, refl, ap, _∙_}
-use mathlib.Core.List.{List, [], _∷_, _++_, map}
+use mathlib.Core.List.{List, [], _∷_, _++_, map, map-append}
 use mathlib.Core.Bool.{Bool, true, false}
 use lib.Dec.{leb, eqb}
 use lib.ListN.{length, take, getD, set, replicate, length-append, length-set}
@@ -14,12 +14,11 @@ use Rattle.gaps.specs.Limits.{mostNumber}
 use Rattle.gaps.specs.Channel.{Channel}
 use Rattle.gaps.specs.Built.{firsts, lasts, padded}
 use Rattle.gaps.proofs.Numbers.{and-split}
-use Rattle.gaps.proofs.Pack.{map-append}
 use Rattle.tracker.specs.declared.Tracker.{Tracker}
 use Rattle.seats.specs.Places.{span}
-use Rattle.tracker.specs.Places.{mark, channel, put}
+use Rattle.tracker.specs.Places.{mark, channelAt, put}
 use Rattle.seats.specs.Rules.{soundRow}
-use Rattle.tracker.specs.Inside.{Kept}
+use Rattle.tracker.specs.Inside.{SoundAt}
 use Rattle.tracker.proofs.Row.{cells, sets-same, sets-set, pad-row, pad-push, pad-set, span-firsts, span-lasts, span-length, span-take, zero-places}
 
 -- ---- what a row within the rules tells
@@ -45,8 +44,8 @@ row-within h e n f l b m s =
 abbrev pub RowOf : Tracker → ℕ → Type 0
 RowOf t i = Within (getD (t .highest) i 0) (getD (t .ended) i 0) (getD (t .counts) i 0) (t .first) (t .last) (i * 32)
 
-pub kept-within : (t : Tracker) (i : ℕ) → Kept t i → RowOf t i
-kept-within t i k = row-within (getD (t .highest) i 0) (getD (t .ended) i 0) (getD (t .counts) i 0) (t .first) (t .last) (i * 32) (k .mark) (k .row)
+pub kept-row : {h e c f l : List ℕ} {i : ℕ} → SoundAt h e c f l i → Within (getD h i 0) (getD e i 0) (getD c i 0) f l (i * 32)
+kept-row {h} {e} {c} {f} {l} {i} k = row-within (getD h i 0) (getD e i 0) (getD c i 0) f l (i * 32) (k .mark) (k .row)
 
 -- ---- the ended mark
 
@@ -102,32 +101,32 @@ module _ (f : List ℕ) (b n j : ℕ) (s : j ≤ n) (r : n ≤ j + 1) (m : j < 3
 
 module _ (t : Tracker) (i : ℕ) (w : RowOf t i) where
   pub put-pushed : (h : ℕ) (e : Bool) (j : ℕ) (x : Run) → j ≤ getD (t .counts) i 0 → getD (t .counts) i 0 ≤ j + 1 → j < 32 →
-      put t i (record-of h e (take j (channel t i .runs) ++ (x ∷ []))) ≡ mended t i h e (j + 1) (i * 32 + j) x
+      put t i (record-of h e (take j (channelAt t i .runs) ++ (x ∷ []))) ≡ mended t i h e (j + 1) (i * 32 + j) x
   put-pushed h e j x s r m =
       let f = t .first in
       let l = t .last in
       let n = getD (t .counts) i 0 in
       let k = span-take f l (i * 32) j n s in
-      let c : length (take j (channel t i .runs) ++ (x ∷ [])) ≡ j + 1 = length-append (take j (channel t i .runs)) (x ∷ []) ∙ ap (λ (a : ℕ). a + 1) (ap length k ∙ span-length f l (i * 32) j) in
+      let c : length (take j (channelAt t i .runs) ++ (x ∷ [])) ≡ j + 1 = length-append (take j (channelAt t i .runs)) (x ∷ []) ∙ ap (λ (a : ℕ). a + 1) (ap length k ∙ span-length f l (i * 32) j) in
       let p = pushed-row f (i * 32) n j s r m (w .firsts-zero) (x .first) in
       let q = pushed-row l (i * 32) n j s r m (w .lasts-zero) (x .last) in
-      put-one t i h e (take j (channel t i .runs) ++ (x ∷ [])) j x m
+      put-one t i h e (take j (channelAt t i .runs) ++ (x ∷ [])) j x m
       (rw (k, map-append (λ (y : Run). y .first) (span f l (i * 32) j) (x ∷ []), span-firsts f l (i * 32) j) p)
       (rw (k, map-append (λ (y : Run). y .last) (span f l (i * 32) j) (x ∷ []), span-lasts f l (i * 32) j) q)
       ∙ ap (λ (a : ℕ). mended t i h e a (i * 32 + j) x) c
 
   pub put-set : (h : ℕ) (e : Bool) (j : ℕ) (x : Run) → j < getD (t .counts) i 0 →
-      put t i (record-of h e (set (channel t i .runs) j x)) ≡ mended t i h e (getD (t .counts) i 0) (i * 32 + j) x
+      put t i (record-of h e (set (channelAt t i .runs) j x)) ≡ mended t i h e (getD (t .counts) i 0) (i * 32 + j) x
   put-set h e j x s =
       let f = t .first in
       let l = t .last in
       let n = getD (t .counts) i 0 in
       let p = pad-set f (i * 32) n 32 j (x .first) (w .room) s (w .firsts-zero) in
       let q = pad-set l (i * 32) n 32 j (x .last) (w .room) s (w .lasts-zero) in
-      put-one t i h e (set (channel t i .runs) j x) j x (omega (arith, w .room))
+      put-one t i h e (set (channelAt t i .runs) j x) j x (omega (arith, w .room))
       (rw (map-set (λ (y : Run). y .first) (span f l (i * 32) n) j x, span-firsts f l (i * 32) n) p)
       (rw (map-set (λ (y : Run). y .last) (span f l (i * 32) n) j x, span-lasts f l (i * 32) n) q)
-      ∙ ap (λ (a : ℕ). mended t i h e a (i * 32 + j) x) (length-set (channel t i .runs) j x ∙ span-length f l (i * 32) n)
+      ∙ ap (λ (a : ℕ). mended t i h e a (i * 32 + j) x) (length-set (channelAt t i .runs) j x ∙ span-length f l (i * 32) n)
     where
       map-set : (f : Run → ℕ) (l : List Run) (j : ℕ) (x : Run) → map f (set l j x) ≡ set (map f l) j (f x)
       map-set f [] j x = refl
@@ -135,7 +134,7 @@ module _ (t : Tracker) (i : ℕ) (w : RowOf t i) where
       map-set f (r ∷ l) (suc j) x = rw (map-set f l j x)
 
   -- the same runs, with another highest and mark
-  pub put-runs : (h : ℕ) (e : Bool) → put t i (record-of h e (channel t i .runs)) ≡
+  pub put-runs : (h : ℕ) (e : Bool) → put t i (record-of h e (channelAt t i .runs)) ≡
       record {
         count = t .count;
         numbers = t .numbers;
@@ -161,5 +160,5 @@ module _ (t : Tracker) (i : ℕ) (w : RowOf t i) where
         set-getD (t .counts) i 0,
       )
 
-  pub put-same : put t i (channel t i) ≡ t
-  put-same = put-runs (getD (t .highest) i 0) (channel t i .ended) ∙ rw (set-getD (t .highest) i 0, mark-same (t .ended) i (w .mark))
+  pub put-same : put t i (channelAt t i) ≡ t
+  put-same = put-runs (getD (t .highest) i 0) (channelAt t i .ended) ∙ rw (set-getD (t .highest) i 0, mark-same (t .ended) i (w .mark))

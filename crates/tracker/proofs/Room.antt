@@ -11,7 +11,7 @@ use Rattle.gaps.specs.Limits.{mostNumber}
 use Rattle.gaps.specs.Gaps.{run, grow}
 use Rattle.gaps.proofs.Grow.{grow-apart, grow-touch}
 use Rattle.rows.specs.declared.Gap.{Gap}
-use Rattle.rows.specs.Gap.{full, placed, gapIn}
+use Rattle.rows.specs.Gap.{full, placed, room}
 use Rattle.rows.proofs.Row.{span-last, yes-there}
 use Rattle.seats.specs.Places.{span}
 use Rattle.tracker.proofs.Told.{Room, Grows}
@@ -58,8 +58,8 @@ module _ (f l : List ℕ) (b held h : ℕ) where
         (record { within = s; low = omega arith; high = omega arith; grown = λ m. rw (span-take f l b held held (omega arith)) (apart e m) })
 
 -- in a row within the rules
-pub room-grows : (f l : List ℕ) (i n h : ℕ) → i < 8 → n ≤ 32 → h ≤ mostNumber → (g : Gap) → g ≡ gapIn f l i n h → Grows f l (i * 32) n h g
-unfolding gapIn
+pub room-grows : (f l : List ℕ) (i n h : ℕ) → i < 8 → n ≤ 32 → h ≤ mostNumber → (g : Gap) → g ≡ room f l i n h → Grows f l (i * 32) n h g
+unfolding room
 room-grows f l i n h p q r g e = rw (e, yes-there i n p q, le-leb h mostNumber r) (go (eqb n 0) refl (eqb (getD l (i * 32 + (n - 1)) 0) h) refl (ltb n 32) refl)
   where
     go : (x : Bool) → eqb n 0 ≡ x → (y : Bool) → eqb (getD l (i * 32 + (n - 1)) 0) h ≡ y → (z : Bool) → ltb n 32 ≡ z →

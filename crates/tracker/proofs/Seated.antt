@@ -9,70 +9,70 @@ use lib.ListN.{getD}
 use borrow.Author.Tests.{lt-ltb, le-ltb}
 use Rattle.wire.specs.Answer.{refused, guard}
 use Rattle.wire.specs.Refusal.{noSuchChannel, malformed}
-use Rattle.gaps.specs.Channel.{Event, judged}
+use Rattle.gaps.specs.Channel.{Event, judgeEvent}
 use Rattle.gaps.proofs.Numbers.{and-split}
 use Rattle.tracker.specs.declared.Tracker.{Tracker}
 use Rattle.seats.specs.declared.Seat.{Seat}
-use Rattle.tracker.specs.Places.{channel}
-use Rattle.seats.specs.Rules.{soundRow, soundRows, marks, sound}
+use Rattle.seats.specs.Arrays.{Arrays}
+use Rattle.tracker.specs.Places.{made, arraysOf, channelAt}
+use Rattle.seats.specs.Rules.{soundRow, soundRows, soundChannels, sound}
 use Rattle.tracker.specs.Rules.{wellFormed}
-use Rattle.tracker.specs.Arrived.{on, place, settled, arrived}
-use Rattle.seats.specs.Seat.{seating}
-use Rattle.tracker.specs.Inside.{Kept}
+use Rattle.tracker.specs.Arrived.{on, place, settled, arrive}
+use Rattle.seats.specs.Seat.{seatOf}
+use Rattle.tracker.specs.Inside.{SoundIn}
 use Rattle.seats.proofs.Heads.{marks-at, sound-count}
 
-rows-at : (ns hs cs f l : List ℕ) (lo i n j : ℕ) → soundRows ns hs cs f l lo i n ≡ true → j < n →
-    soundRow (getD hs (i + j) 0) (getD cs (i + j) 0) f l ((i + j) * 32) ≡ true
+rows-at : (a : Arrays) (lo i n j : ℕ) → soundRows a lo i n ≡ true → j < n →
+    soundRow (getD (a .highest) (i + j) 0) (getD (a .counts) (i + j) 0) (a .first) (a .last) ((i + j) * 32) ≡ true
 unfolding soundRows
-rows-at ns hs cs f l lo i zero j e h = absurd (omega arith)
-rows-at ns hs cs f l lo i (suc n) zero e h =
+rows-at a lo i zero j e h = absurd (omega arith)
+rows-at a lo i (suc n) zero e h =
     let g : i + 0 ≡ i = omega arith in
-    rw g (and-split (soundRow (getD hs i 0) (getD cs i 0) f l (i * 32)) _ (and-split (leb lo (getD ns i 0)) _ e .1) .0)
-rows-at ns hs cs f l lo i (suc n) (suc j) e h =
+    rw g (and-split (soundRow (getD (a .highest) i 0) (getD (a .counts) i 0) (a .first) (a .last) (i * 32)) _ (and-split (leb lo (getD (a .numbers) i 0)) _ e .1) .0)
+rows-at a lo i (suc n) (suc j) e h =
     let g : i + suc j ≡ suc i + j = omega arith in
-    rw g (rows-at ns hs cs f l (getD ns i 0 + 1) (suc i) n j (and-split (soundRow (getD hs i 0) (getD cs i 0) f l (i * 32)) _ (and-split (leb lo (getD ns i 0)) _ e .1) .1) (omega arith))
+    rw g (rows-at a (getD (a .numbers) i 0 + 1) (suc i) n j (and-split (soundRow (getD (a .highest) i 0) (getD (a .counts) i 0) (a .first) (a .last) (i * 32)) _ (and-split (leb lo (getD (a .numbers) i 0)) _ e .1) .1) (omega arith))
 
 module _ (t : Tracker) (e : wellFormed t ≡ true) where
   pub well-count : t .count ≤ 8
   unfolding wellFormed
-  well-count = sound-count (t .count) (t .numbers) (t .highest) (t .ended) (t .counts) (t .first) (t .last) e
+  well-count = sound-count (arraysOf t) e
 
-  pub well-row : (i : ℕ) → i < t .count → Kept t i
-  unfolding wellFormed sound
+  pub well-row : (i : ℕ) → i < t .count → SoundIn t i
+  unfolding wellFormed sound soundChannels
   well-row i h =
-      let r = and-split (soundRows (t .numbers) (t .highest) (t .counts) (t .first) (t .last) 0 0 (t .count)) _ (and-split (leb (t .count) 8) _ (and-split (not (eqb (t .count) 0)) _ e .1) .1) in
+      let a = arraysOf t in
+      let s = and-split (soundChannels a) _ (and-split (leb (t .count) 8) _ (and-split (not (eqb (t .count) 0)) _ e .1) .1) in
+      let r = and-split (soundRows a 0 0 (t .count)) _ (s .0) in
       let g : 0 + i ≡ i = omega arith in
       record {
         place = omega (arith, well-count);
-        mark = rw g at (marks-at (t .ended) 0 8 i (and-split (marks (t .ended) 0 8) _ (r .1) .0) (omega (arith, well-count)));
-        row = rw g at (rows-at (t .numbers) (t .highest) (t .counts) (t .first) (t .last) 0 0 (t .count) i (r .0) h);
+        mark = rw g at (marks-at (t .ended) 0 8 i (r .1) (omega (arith, well-count)));
+        row = rw g at (rows-at a 0 0 (t .count) i (r .0) h);
       }
 
 -- ---- the refusals in their order
 
 module _ (t : Tracker) (k : ℕ) (e : Event) where
-  pub arrived-10 : wellFormed t ≡ false → arrived t (on k e) ≡ record { said = refused malformed []; next = t }
-  unfolding arrived guard
+  pub arrived-10 : wellFormed t ≡ false → arrive t (on k e) ≡ record { said = refused malformed []; next = t }
+  unfolding arrive guard
   arrived-10 p = rw p
 
-  pub arrived-7 : wellFormed t ≡ true → t .count ≤ place t k → arrived t (on k e) ≡ record { said = refused noSuchChannel []; next = t }
-  unfolding arrived guard
+  pub arrived-7 : wellFormed t ≡ true → t .count ≤ place t k → arrive t (on k e) ≡ record { said = refused noSuchChannel []; next = t }
+  unfolding arrive guard
   arrived-7 p q = rw (p, le-ltb (place t k) (t .count) q)
 
-  pub arrived-at : wellFormed t ≡ true → place t k < t .count → arrived t (on k e) ≡ settled t (place t k) (judged (channel t (place t k)) e)
-  unfolding arrived guard
+  pub arrived-at : wellFormed t ≡ true → place t k < t .count → arrive t (on k e) ≡ settled t (place t k) (judgeEvent (channelAt t (place t k)) e)
+  unfolding arrive guard
   arrived-at p q = rw (p, lt-ltb (place t k) (t .count) q)
 
 -- ---- a seat
 
-abbrev pub seatIn : Tracker → ℕ → Seat
-seatIn t k = seating k (t .count) (t .numbers) (t .highest) (t .ended) (t .counts) (t .first) (t .last)
-
-module _ (t : Tracker) (k : ℕ) (s : Seat) (q : s ≡ seatIn t k) where
-  pub seat-sound : wellFormed t ≡ s .sound
-  unfolding seating wellFormed
+module _ (a : Arrays) (k : ℕ) (s : Seat) (q : s ≡ seatOf k a) where
+  pub seat-sound : wellFormed (made a) ≡ s .sound
+  unfolding seatOf wellFormed
   seat-sound = sym (ap (λ (x : Seat). x .sound) q)
 
-  pub seat-place : wellFormed t ≡ true → place t k ≡ s .at
-  unfolding seating wellFormed place
+  pub seat-place : wellFormed (made a) ≡ true → place (made a) k ≡ s .at
+  unfolding seatOf wellFormed place
   seat-place p = sym (ap (λ (x : Seat). x .at) q ∙ rw p)

@@ -3,19 +3,19 @@
 use Prim.Native.Nat.{ℕ, zero, suc, _+_, _*_, _-_, _≤_, _<_}
 use native.Mathlib.Omega.{arith}
 use mathlib.Core.Path.{_≡_, refl, ap, sym, _∙_}
-use mathlib.Core.List.{List, [], _∷_, _++_, append-assoc, map}
+use mathlib.Core.List.{List, [], _∷_, _++_, append-assoc, map, map-append}
 use mathlib.Core.Bool.{Bool, true}
 use lib.ListN.{length, take, drop, getD, set, replicate, length-append}
 use lib.Seq.{sets}
 use Rattle.gaps.specs.declared.Run.{Run}
 use Rattle.gaps.specs.Gaps.{run}
 use Rattle.gaps.specs.Built.{firsts, lasts, padded}
-use Rattle.gaps.proofs.Pack.{map-append}
 use Rattle.seats.specs.Places.{span}
 use Rattle.rows.specs.Shift.{closing, opening, closed, opened}
 use Rattle.rows.proofs.Shift.{yes-places, closed-there, opened-there}
 use Rattle.tracker.specs.declared.Tracker.{Tracker}
-use Rattle.tracker.specs.Places.{mark, channel, put}
+use Rattle.tracker.specs.Places.{mark, channelAt, put}
+use Rattle.tracker.specs.Inside.{shut, cleft}
 use Rattle.tracker.proofs.Row.{cells, cells-length, cells-add, cells-before, sets-same, span-firsts, span-lasts, span-length, span-take}
 use Rattle.tracker.proofs.Put.{RowOf, record-of, zeros-later}
 
@@ -108,62 +108,36 @@ span-drop f l b (suc n) (suc m) h =
     let d : suc m - suc n ≡ m - n = omega arith in
     rw (e, d) (span-drop f l (suc b) n m (omega arith))
 
--- the tracker without the run at place j of channel i
-abbrev pub shut : Tracker → ℕ → ℕ → Tracker
-shut t i p =
-    record {
-      count = t .count;
-      numbers = t .numbers;
-      highest = t .highest;
-      ended = t .ended;
-      counts = set (t .counts) i (getD (t .counts) i 0 - 1);
-      first = closed (t .first) p (i * 32 + (getD (t .counts) i 0 - 1));
-      last = closed (t .last) p (i * 32 + (getD (t .counts) i 0 - 1));
-    }
-
--- the tracker whose run at place p of channel i is split around v
-abbrev pub cleft : Tracker → ℕ → ℕ → ℕ → Tracker
-cleft t i p v =
-    record {
-      count = t .count;
-      numbers = t .numbers;
-      highest = t .highest;
-      ended = t .ended;
-      counts = set (t .counts) i (getD (t .counts) i 0 + 1);
-      first = opened (t .first) (p + 1) (i * 32 + getD (t .counts) i 0) (v + 1);
-      last = opened (t .last) p (i * 32 + getD (t .counts) i 0) (v - 1);
-    }
-
 module _ (t : Tracker) (i : ℕ) (w : RowOf t i) (a : i < 8) (j : ℕ) (m : j < getD (t .counts) i 0) where
   abbrev n : ℕ
   n = getD (t .counts) i 0
 
-  parts : (xs : List Run) → take j (channel t i .runs) ++ (xs ++ drop (suc j) (channel t i .runs)) ≡
+  parts : (xs : List Run) → take j (channelAt t i .runs) ++ (xs ++ drop (suc j) (channelAt t i .runs)) ≡
       span (t .first) (t .last) (i * 32) j ++ (xs ++ span (t .first) (t .last) (i * 32 + suc j) (n - suc j))
   parts xs = rw (span-take (t .first) (t .last) (i * 32) j n (omega arith), span-drop (t .first) (t .last) (i * 32) (suc j) n (omega arith))
 
-  parts-firsts : (xs : List Run) → firsts (take j (channel t i .runs) ++ (xs ++ drop (suc j) (channel t i .runs))) ≡
+  parts-firsts : (xs : List Run) → firsts (take j (channelAt t i .runs) ++ (xs ++ drop (suc j) (channelAt t i .runs))) ≡
       cells (t .first) (i * 32) j ++ (firsts xs ++ cells (t .first) (i * 32 + suc j) (n - suc j))
   parts-firsts xs =
       rw (parts xs)
       (map-append (λ (r : Run). r .first) (span (t .first) (t .last) (i * 32) j) (xs ++ span (t .first) (t .last) (i * 32 + suc j) (n - suc j))
       ∙ rw (map-append (λ (r : Run). r .first) xs (span (t .first) (t .last) (i * 32 + suc j) (n - suc j)), span-firsts (t .first) (t .last) (i * 32) j, span-firsts (t .first) (t .last) (i * 32 + suc j) (n - suc j)))
 
-  parts-lasts : (xs : List Run) → lasts (take j (channel t i .runs) ++ (xs ++ drop (suc j) (channel t i .runs))) ≡
+  parts-lasts : (xs : List Run) → lasts (take j (channelAt t i .runs) ++ (xs ++ drop (suc j) (channelAt t i .runs))) ≡
       cells (t .last) (i * 32) j ++ (lasts xs ++ cells (t .last) (i * 32 + suc j) (n - suc j))
   parts-lasts xs =
       rw (parts xs)
       (map-append (λ (r : Run). r .last) (span (t .first) (t .last) (i * 32) j) (xs ++ span (t .first) (t .last) (i * 32 + suc j) (n - suc j))
       ∙ rw (map-append (λ (r : Run). r .last) xs (span (t .first) (t .last) (i * 32 + suc j) (n - suc j)), span-lasts (t .first) (t .last) (i * 32) j, span-lasts (t .first) (t .last) (i * 32 + suc j) (n - suc j)))
 
-  pub parts-length : (xs : List Run) → length (take j (channel t i .runs) ++ (xs ++ drop (suc j) (channel t i .runs))) ≡ j + (length xs + (n - suc j))
+  pub parts-length : (xs : List Run) → length (take j (channelAt t i .runs) ++ (xs ++ drop (suc j) (channelAt t i .runs))) ≡ j + (length xs + (n - suc j))
   parts-length xs =
       rw (parts xs)
       (length-append (span (t .first) (t .last) (i * 32) j) (xs ++ span (t .first) (t .last) (i * 32 + suc j) (n - suc j))
       ∙ rw (length-append xs (span (t .first) (t .last) (i * 32 + suc j) (n - suc j)), span-length (t .first) (t .last) (i * 32) j, span-length (t .first) (t .last) (i * 32 + suc j) (n - suc j)))
 
   -- the run at place j goes
-  pub put-shut : (h : ℕ) (e : Bool) → put t i (record-of h e (take j (channel t i .runs) ++ drop (suc j) (channel t i .runs))) ≡
+  pub put-shut : (h : ℕ) (e : Bool) → put t i (record-of h e (take j (channelAt t i .runs) ++ drop (suc j) (channelAt t i .runs))) ≡
       record {
         count = t .count;
         numbers = t .numbers;
@@ -210,7 +184,7 @@ module _ (t : Tracker) (i : ℕ) (w : RowOf t i) (a : i < 8) (j : ℕ) (m : j < 
         (ap (λ (x : List ℕ). sets (t .last) (i * 32) (padded 32 (cells (t .last) (i * 32) j ++ ((v - 1) ∷ x)))) (sym c)
         ∙ opened-field (t .last) (i * 32) n (w .lasts-zero) j (v - 1) (omega arith) k (omega arith))
 
-    pub put-cleft : (h : ℕ) (e : Bool) → put t i (record-of h e (take j (channel t i .runs) ++ (halves ++ drop (suc j) (channel t i .runs)))) ≡
+    pub put-cleft : (h : ℕ) (e : Bool) → put t i (record-of h e (take j (channelAt t i .runs) ++ (halves ++ drop (suc j) (channelAt t i .runs)))) ≡
         record {
           count = t .count;
           numbers = t .numbers;

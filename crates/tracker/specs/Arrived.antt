@@ -6,13 +6,13 @@ use lib.Dec.{ltb, eqb}
 use lib.ListN.{getD}
 use Rattle.wire.specs.Answer.{Answer, accepted, refused, guard}
 use Rattle.wire.specs.Refusal.{noSuchChannel, numberTooLow, tableFull, malformed}
-use Rattle.gaps.specs.Channel.{Event, Said, new, late, duplicate, heard, Step, judged}
+use Rattle.gaps.specs.Channel.{Event, ArrivalSaid, new, late, duplicate, heard, Step, judgeEvent}
 use Rattle.seats.specs.Seat.{placeFrom}
 use Rattle.tracker.specs.declared.Tracker.{Tracker}
 use Rattle.tracker.specs.declared.Verdict.{Verdict}
 use Rattle.tracker.specs.declared.Verdict.the-variants.{New, Late, Duplicate, Heard, NoSuchChannel, NumberTooLow, TableFull, Malformed}
 use Rattle.tracker.specs.declared.Reply.{Reply}
-use Rattle.tracker.specs.Places.{channel, put}
+use Rattle.tracker.specs.Places.{channelAt, put}
 use Rattle.tracker.specs.Rules.{wellFormed}
 
 -- T5: an arrival: the channel that it came on, and what came
@@ -30,7 +30,7 @@ place t k = placeFrom (t .numbers) k 0 (t .count)
 
 -- T5: what an arrival is answered, and the next tracker
 pub record Outcome : Type 0 where
-  pub said : Answer Said
+  pub said : Answer ArrivalSaid
   pub next : Tracker
 
 -- T5, J6: the step's record goes to place i; a refusal leaves the tracker as it stood
@@ -39,28 +39,28 @@ settled t i (accepted s) = record { said = accepted (s .said); next = put t i (s
 settled t i (refused n v) = record { said = refused n v; next = t }
 
 -- J4: 10, then 7, then what the channel judges
-unfoldable pub arrived : Tracker → Arrival → Outcome
-arrived t a =
+unfoldable pub arrive : Tracker → Arrival → Outcome
+arrive t a =
     settled t (place t (a .channel))
     (guard (not (wellFormed t)) (refused malformed [])
     (guard (not (ltb (place t (a .channel)) (t .count))) (refused noSuchChannel [])
-    (judged (channel t (place t (a .channel))) (a .event))))
+    (judgeEvent (channelAt t (place t (a .channel))) (a .event))))
 
 -- the number and values for each case of the code's verdict
-abbrev pub saidOf : Verdict → Answer Said
-saidOf New = accepted new
-saidOf Late = accepted late
-saidOf Duplicate = accepted duplicate
-saidOf Heard = accepted heard
-saidOf NoSuchChannel = refused noSuchChannel []
-saidOf NumberTooLow = refused numberTooLow []
-saidOf TableFull = refused tableFull []
-saidOf Malformed = refused malformed []
+abbrev pub arrivalSaid : Verdict → Answer ArrivalSaid
+arrivalSaid New = accepted new
+arrivalSaid Late = accepted late
+arrivalSaid Duplicate = accepted duplicate
+arrivalSaid Heard = accepted heard
+arrivalSaid NoSuchChannel = refused noSuchChannel []
+arrivalSaid NumberTooLow = refused numberTooLow []
+arrivalSaid TableFull = refused tableFull []
+arrivalSaid Malformed = refused malformed []
 
 -- what a verdict says, with the next tracker
 abbrev pub answered : Verdict → Tracker → Outcome
-answered v t = record { said = saidOf v; next = t }
+answered v t = record { said = arrivalSaid v; next = t }
 
 -- what a reply says
-abbrev pub paper : Reply → Outcome
-paper r = answered (r .verdict) (r .next)
+abbrev pub meansReply : Reply → Outcome
+meansReply r = answered (r .verdict) (r .next)

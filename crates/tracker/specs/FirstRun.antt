@@ -7,7 +7,7 @@ use Rattle.wire.specs.Answer.{Answer, accepted, refused, guard}
 use Rattle.wire.specs.Refusal.{noSuchChannel, malformed}
 use Rattle.gaps.specs.declared.Run.{Run}
 use Rattle.tracker.specs.declared.Tracker.{Tracker}
-use Rattle.tracker.specs.Places.{channel}
+use Rattle.tracker.specs.Places.{channelAt}
 use Rattle.tracker.specs.Rules.{wellFormed}
 use Rattle.tracker.specs.Arrived.{place}
 
@@ -26,4 +26,4 @@ unfoldable pub firstRun : Tracker → ℕ → Answer Lost
 firstRun t k =
     guard (not (wellFormed t)) (refused malformed [])
     (guard (not (ltb (place t k) (t .count))) (refused noSuchChannel [])
-    (accepted (foremost (channel t (place t k) .runs))))
+    (accepted (foremost (channelAt t (place t k) .runs))))

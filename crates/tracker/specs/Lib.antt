@@ -4,4 +4,5 @@ pub mod SetUp
 pub mod Arrived
 pub mod FirstRun
 pub mod Request
+pub mod Number
 pub mod Inside

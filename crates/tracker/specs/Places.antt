@@ -10,16 +10,33 @@ use Rattle.gaps.specs.Gaps.{run}
 use Rattle.gaps.specs.Limits.{runLimit}
 use Rattle.gaps.specs.Channel.{Channel}
 use Rattle.gaps.specs.Built.{firsts, lasts, padded}
+use Rattle.seats.specs.Arrays.{Arrays, arrays}
 use Rattle.seats.specs.Places.{span}
 use Rattle.tracker.specs.declared.Tracker.{Tracker}
+
+-- the tracker of a count and arrays, and those of a tracker
+abbrev pub made : Arrays → Tracker
+made a =
+    record {
+      count = a .count;
+      numbers = a .numbers;
+      highest = a .highest;
+      ended = a .ended;
+      counts = a .counts;
+      first = a .first;
+      last = a .last;
+    }
+
+abbrev pub arraysOf : Tracker → Arrays
+arraysOf t = arrays (t .count) (t .numbers) (t .highest) (t .ended) (t .counts) (t .first) (t .last)
 
 -- T2: an ended mark in its place: 1 where it is set, else 0
 abbrev pub mark : Bool → ℕ
 mark e = cond e 1 0
 
 -- T2: the record of the channel at place i
-abbrev pub channel : Tracker → ℕ → Channel
-channel t i =
+abbrev pub channelAt : Tracker → ℕ → Channel
+channelAt t i =
     record {
       highest = getD (t .highest) i 0;
       ended = eqb (getD (t .ended) i 0) 1;

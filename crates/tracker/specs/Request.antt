@@ -68,49 +68,49 @@ requestLength = frameLength (bodyLength resend [])
 -- ---- the refusals in their order
 
 -- R6: the numbers to ask for, for an output of room bytes
-abbrev pub fitting : ℕ → Lost → Answer Lost
-fitting room (lost r) = guard (ltb room requestLength) (refused outputShort []) (accepted (lost (asked r)))
-fitting room nothingMissing = accepted nothingMissing
+abbrev pub roomForRequest : ℕ → Lost → Answer Lost
+roomForRequest room (lost r) = guard (ltb room requestLength) (refused outputShort []) (accepted (lost (asked r)))
+roomForRequest room nothingMissing = accepted nothingMissing
 
 -- J5: 10, 7, nothing missing, 6
-unfoldable pub judging : Tracker → ℕ → ℕ → Answer Lost
-judging t k room = andThen (firstRun t k) (fitting room)
+unfoldable pub requestJudged : Tracker → ℕ → ℕ → Answer Lost
+requestJudged t k room = andThen (firstRun t k) (roomForRequest room)
 
 -- ---- what is answered, and what the output holds then
 
 -- Q3, J8: how many bytes were written, or nothing missing
-pub data Said : Type 0 where
-  written : ℕ → Said
-  nothing : Said
+pub data RequestSaid : Type 0 where
+  written : ℕ → RequestSaid
+  nothing : RequestSaid
 
 -- what goes with the numbers asked for
-abbrev pub said : Lost → Said
-said (lost r) = written requestLength
-said nothingMissing = nothing
+abbrev pub requestSaid : Lost → RequestSaid
+requestSaid (lost r) = written requestLength
+requestSaid nothingMissing = nothing
 
 -- J6: a refusal is its number
-abbrev pub answerOf : Answer Lost → Answer Said
-answerOf (accepted x) = accepted (said x)
+abbrev pub answerOf : Answer Lost → Answer RequestSaid
+answerOf (accepted x) = accepted (requestSaid x)
 answerOf (refused n vs) = refused n vs
 
 -- W2, Q3, J6: exactly the bytes of the frame change; nothing does where nothing is missing, nor on a refusal
-abbrev pub outputOf : Answer Lost → ℕ → List ℕ → List ℕ
-outputOf (accepted (lost r)) k out = splice out 0 (requestFrame k r)
-outputOf (accepted nothingMissing) k out = out
-outputOf (refused n vs) k out = out
+abbrev pub outputAsked : Answer Lost → ℕ → List ℕ → List ℕ
+outputAsked (accepted (lost r)) k out = splice out 0 (requestFrame k r)
+outputAsked (accepted nothingMissing) k out = out
+outputAsked (refused n vs) k out = out
 
 -- J5: what a request for channel k is answered
-unfoldable pub answering : Tracker → ℕ → List ℕ → Answer Said
-answering t k out = answerOf (judging t k (length out))
+unfoldable pub request : Tracker → ℕ → List ℕ → Answer RequestSaid
+request t k out = answerOf (requestJudged t k (length out))
 
 -- Q2: what the output holds after it
-unfoldable pub leaving : Tracker → ℕ → List ℕ → List ℕ
-leaving t k out = outputOf (judging t k (length out)) k out
+unfoldable pub requestLeaves : Tracker → ℕ → List ℕ → List ℕ
+requestLeaves t k out = outputAsked (requestJudged t k (length out)) k out
 
 -- the number and values for each case of the code's answer
-abbrev pub paper : Requested → Answer Said
-paper (Written n) = accepted (written n)
-paper NothingMissing = accepted nothing
-paper Malformed = refused malformed []
-paper NoSuchChannel = refused noSuchChannel []
-paper OutputShort = refused outputShort []
+abbrev pub meansRequested : Requested → Answer RequestSaid
+meansRequested (Written n) = accepted (written n)
+meansRequested NothingMissing = accepted nothing
+meansRequested Malformed = refused malformed []
+meansRequested NoSuchChannel = refused noSuchChannel []
+meansRequested OutputShort = refused outputShort []

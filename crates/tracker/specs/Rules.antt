@@ -2,7 +2,8 @@
 use mathlib.Core.Bool.{Bool}
 use Rattle.seats.specs.Rules.{sound}
 use Rattle.tracker.specs.declared.Tracker.{Tracker}
+use Rattle.tracker.specs.Places.{arraysOf}
 
 -- R10: the tracker keeps every rule
 unfoldable pub wellFormed : Tracker → Bool
-wellFormed t = sound (t .count) (t .numbers) (t .highest) (t .ended) (t .counts) (t .first) (t .last)
+wellFormed t = sound (arraysOf t)

@@ -37,24 +37,24 @@ pub record Ready : Type 0 where
   pub tracker : Tracker
 
 -- J7: a refused set-up gives zeros, and no channel
-abbrev pub given : Answer Tracker → Ready
-given (accepted t) = record { said = accepted tt; tracker = t }
-given (refused n v) = record { said = refused n v; tracker = blankOf [] }
+abbrev pub setUpGives : Answer Tracker → Ready
+setUpGives (accepted t) = record { said = accepted tt; tracker = t }
+setUpGives (refused n v) = record { said = refused n v; tracker = blankOf [] }
 
 -- T1, R10: no channel, too many, or numbers that do not ascend are refused
 unfoldable pub setUp : List ℕ → Ready
 setUp numbers =
-    given
+    setUpGives
     (guard (eqb (length numbers) 0) (refused malformed [])
     (guard (ltb channelLimit (length numbers)) (refused malformed [])
     (guard (not (ascends 0 numbers)) (refused malformed [])
     (accepted (blankOf numbers)))))
 
 -- the number and values for each case of the code's answer
-abbrev pub saidOf : Start → Answer Unit
-saidOf SetUp = accepted tt
-saidOf Malformed = refused malformed []
+abbrev pub setUpSaid : Start → Answer Unit
+setUpSaid SetUp = accepted tt
+setUpSaid Malformed = refused malformed []
 
 -- what the set-up's answer says
-abbrev pub paper : Started → Ready
-paper r = record { said = saidOf (r .verdict); tracker = r .tracker }
+abbrev pub meansStarted : Started → Ready
+meansStarted r = record { said = setUpSaid (r .verdict); tracker = r .tracker }

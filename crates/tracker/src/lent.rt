@@ -1,20 +1,22 @@
 // Arrivals on the lent arrays of a tracker, which become those of the next one; a refusal leaves them as they stood.
 ghost use mathlib.Core.Path.{_≡_};
-ghost use mathlib.Core.List.{[]};
 ghost use Prim.Native.Nat.{_*_, _+_, _-_, _<_, _≤_};
+ghost use lib.IntN.{pos};
 ghost use lib.ListN.{getD, set};
 ghost use Rattle.gaps.specs.Limits.{runLimit, mostNumber};
 ghost use Rattle.gaps.specs.Channel.{tick, heartbeat};
 ghost use Rattle.seats.specs.Places.{channelLimit, placeCount};
-ghost use Rattle.rows.specs.Shift.{closed, opened};
-ghost use Rattle.tracker.specs.Arrived.{on, arrived, saidOf, answered};
-ghost use Rattle.tracker.specs.Inside.{made, Kept, Raises};
+ghost use Rattle.rows.specs.declared.Held.the-variants.{Alone, Inside};
+ghost use Rattle.seats.specs.Arrays.{atEntry, atExit};
+ghost use Rattle.tracker.specs.Places.{made};
+ghost use Rattle.tracker.specs.Arrived.{on, arrive, arrivalSaid, answered};
+ghost use Rattle.tracker.specs.Inside.{SoundAt, Becomes, Relays, stepped, raising, Changeable, lateAs};
 use crate::Judged;
 use crate::Tracker;
 use crate::Verdict;
 use crate::refused::judge;
 use crate::signs;
-use gaps::Runs;
+use gaps::Run;
 use rows::Held;
 use rows::close;
 use rows::open;
@@ -33,7 +35,7 @@ pub fn tick_in(
     channel: u16,
     number: i64,
 ) -> Verdict
-    ensures { λ r. ⌜ answered r (made count (now (numbers .entry)) (now (highest .exit)) (now (ended .exit)) (now (counts .exit)) (now (first .exit)) (now (last .exit))) ≡ arrived (made count (now (numbers .entry)) (now (highest .entry)) (now (ended .entry)) (now (counts .entry)) (now (first .entry)) (now (last .entry))) (on channel (tick number)) ⌝ }
+    ensures { λ r. ⌜ answered r (made (atExit count numbers highest ended counts first last)) ≡ arrive (made (atEntry count numbers highest ended counts first last)) (on channel (tick number)) ⌝ }
 {
     let n = signs::natural(number);
     let judged = judge(
@@ -49,50 +51,7 @@ pub fn tick_in(
     );
     match judged {
         Judged::Refused(verdict) => verdict,
-        Judged::At(at) => {
-            let before = highest[at];
-            // The common path: the next number, and nothing else changes.
-            if before == n - 1 {
-                highest[at] = n;
-                return Verdict::New;
-            }
-            if before < n {
-                let mark = ended[at] == 1;
-                return raise(
-                    at,
-                    n - 1,
-                    n,
-                    mark,
-                    Verdict::New,
-                    highest,
-                    ended,
-                    counts,
-                    first,
-                    last,
-                );
-            }
-            let runs = counts[at];
-            let held = search(first, last, at, runs, n);
-            match held {
-                Held::No => Verdict::Duplicate,
-                Held::AtEnd(p, a, e) => {
-                    first[p] = a;
-                    last[p] = e;
-                    return Verdict::Late;
-                }
-                Held::Alone(p) => {
-                    leave(at, p, counts, first, last);
-                    return Verdict::Late;
-                }
-                Held::Inside(p) => {
-                    if runs == Runs::LIMIT {
-                        return Verdict::TableFull;
-                    }
-                    split(at, p, n, counts, first, last);
-                    return Verdict::Late;
-                }
-            }
-        }
+        Judged::At(at) => ticked(at, n, highest, ended, counts, first, last),
     }
 }
 
@@ -109,7 +68,7 @@ pub fn heartbeat_in(
     number: i64,
     end: bool,
 ) -> Verdict
-    ensures { λ r. ⌜ answered r (made count (now (numbers .entry)) (now (highest .exit)) (now (ended .exit)) (now (counts .exit)) (now (first .exit)) (now (last .exit))) ≡ arrived (made count (now (numbers .entry)) (now (highest .entry)) (now (ended .entry)) (now (counts .entry)) (now (first .entry)) (now (last .entry))) (on channel (heartbeat number end)) ⌝ }
+    ensures { λ r. ⌜ answered r (made (atExit count numbers highest ended counts first last)) ≡ arrive (made (atEntry count numbers highest ended counts first last)) (on channel (heartbeat number end)) ⌝ }
 {
     let judged = judge(
         channel,
@@ -126,25 +85,103 @@ pub fn heartbeat_in(
         Judged::Refused(verdict) => verdict,
         Judged::At(at) => {
             let m = signs::natural(number);
-            let before = highest[at];
-            let mark = (ended[at] == 1) | end;
-            if before < m {
-                return raise(
-                    at,
-                    m,
-                    m,
-                    mark,
-                    Verdict::Heard,
-                    highest,
-                    ended,
-                    counts,
-                    first,
-                    last,
-                );
-            }
-            ended[at] = signs::mark(mark);
-            Verdict::Heard
+            heard(at, m, end, highest, ended, counts, first, last)
         }
+    }
+}
+
+// A tick of n on the channel at a place.
+fn ticked(
+    at: usize,
+    n: u64,
+    highest: &mut [u64; Tracker::CHANNELS],
+    ended: &mut [u8; Tracker::CHANNELS],
+    counts: &mut [usize; Tracker::CHANNELS],
+    first: &mut [u64; Tracker::PLACES],
+    last: &mut [u64; Tracker::PLACES],
+) -> Verdict
+    requires { ⌜ SoundAt (now highest) (now ended) (now counts) (now first) (now last) at × (1 ≤ n) ⌝ }
+    ensures { λ r. ⌜ Becomes r (stepped at (tick (pos n))) highest ended counts first last ⌝ }
+{
+    let before = highest[at];
+    // The common path: the next number, and nothing else changes.
+    if before == n - 1 {
+        highest[at] = n;
+        return Verdict::New;
+    }
+    if before < n {
+        let mark = ended[at] == 1;
+        return raise(
+            at,
+            n - 1,
+            n,
+            mark,
+            Verdict::New,
+            highest,
+            ended,
+            counts,
+            first,
+            last,
+        );
+    }
+    let held = search(first, last, at, counts[at], n);
+    late(held, at, n, counts, first, last)
+}
+
+// A channel heartbeat of last number m on the channel at a place.
+fn heard(
+    at: usize,
+    m: u64,
+    end: bool,
+    highest: &mut [u64; Tracker::CHANNELS],
+    ended: &mut [u8; Tracker::CHANNELS],
+    counts: &mut [usize; Tracker::CHANNELS],
+    first: &mut [u64; Tracker::PLACES],
+    last: &mut [u64; Tracker::PLACES],
+) -> Verdict
+    requires { ⌜ SoundAt (now highest) (now ended) (now counts) (now first) (now last) at ⌝ }
+    ensures { λ r. ⌜ Becomes r (stepped at (heartbeat (pos m) end)) highest ended counts first last ⌝ }
+{
+    let mark = (ended[at] == 1) | end;
+    if highest[at] < m {
+        return raise(
+            at,
+            m,
+            m,
+            mark,
+            Verdict::Heard,
+            highest,
+            ended,
+            counts,
+            first,
+            last,
+        );
+    }
+    ended[at] = signs::mark(mark);
+    Verdict::Heard
+}
+
+// A number that is not above the highest, by what the search found.
+fn late(
+    held: Held,
+    at: usize,
+    n: u64,
+    counts: &mut [usize; Tracker::CHANNELS],
+    first: &mut [u64; Tracker::PLACES],
+    last: &mut [u64; Tracker::PLACES],
+) -> Verdict
+    requires { ⌜ (at < channelLimit) × (getD (now counts) at 0 ≤ runLimit) × (1 ≤ n) × (n ≤ mostNumber) × Changeable held (getD (now counts) at 0) ⌝ }
+    ensures { λ r. ⌜ Relays r (lateAs held at n) counts first last ⌝ }
+{
+    match held {
+        Held::No => Verdict::Duplicate,
+        Held::AtEnd(p, a, e) => {
+            first[p] = a;
+            last[p] = e;
+            return Verdict::Late;
+        }
+        Held::Alone(p) => leave(at, p, counts, first, last),
+        Held::Inside(p) => split(at, p, n, counts, first, last),
     }
 }
 
@@ -161,8 +198,8 @@ fn raise(
     first: &mut [u64; Tracker::PLACES],
     last: &mut [u64; Tracker::PLACES],
 ) -> Verdict
-    requires { ⌜ Kept (made 0 [] (now highest) (now ended) (now counts) (now first) (now last)) at ⌝ }
-    ensures { λ r. ⌜ Raises r (now (highest .entry)) (now (ended .entry)) (now (counts .entry)) (now (first .entry)) (now (last .entry)) (now (highest .exit)) (now (ended .exit)) (now (counts .exit)) (now (first .exit)) (now (last .exit)) at (saidOf verdict) top mark m ⌝ }
+    requires { ⌜ SoundAt (now highest) (now ended) (now counts) (now first) (now last) at ⌝ }
+    ensures { λ r. ⌜ Becomes r (raising at (arrivalSaid verdict) top mark m) highest ended counts first last ⌝ }
 {
     let held = counts[at];
     let before = highest[at];
@@ -171,7 +208,7 @@ fn raise(
         return Verdict::TableFull;
     }
     let j = gap.at;
-    let p = at * Runs::LIMIT + j;
+    let p = at * Run::LIMIT + j;
     first[p] = gap.first;
     last[p] = m;
     counts[at] = j + 1;
@@ -187,18 +224,19 @@ fn leave(
     counts: &mut [usize; Tracker::CHANNELS],
     first: &mut [u64; Tracker::PLACES],
     last: &mut [u64; Tracker::PLACES],
-)
-    requires { ⌜ (at < channelLimit) × ((1 ≤ getD (now counts) at 0) × (getD (now counts) at 0 ≤ runLimit)) ⌝ }
-    ensures { λ _. ⌜ (now (counts .exit) ≡ set (now (counts .entry)) at (getD (now (counts .entry)) at 0 - 1)) × ((now (first .exit) ≡ closed (now (first .entry)) p (at * runLimit + (getD (now (counts .entry)) at 0 - 1))) × (now (last .exit) ≡ closed (now (last .entry)) p (at * runLimit + (getD (now (counts .entry)) at 0 - 1)))) ⌝ }
+) -> Verdict
+    requires { ⌜ (at < channelLimit) × (getD (now counts) at 0 ≤ runLimit) × (1 ≤ getD (now counts) at 0) ⌝ }
+    ensures { λ r. ⌜ Relays r (lateAs (Alone p) at 0) counts first last ⌝ }
 {
     let left = counts[at] - 1;
-    let q = at * Runs::LIMIT + left;
+    let q = at * Run::LIMIT + left;
     close(first, p, q);
     close(last, p, q);
     counts[at] = left;
+    Verdict::Late
 }
 
-// The run at place p splits around n.
+// The run at place p splits around n; or 9.
 fn split(
     at: usize,
     p: usize,
@@ -206,13 +244,17 @@ fn split(
     counts: &mut [usize; Tracker::CHANNELS],
     first: &mut [u64; Tracker::PLACES],
     last: &mut [u64; Tracker::PLACES],
-)
-    requires { ⌜ (at < channelLimit) × ((getD (now counts) at 0 < runLimit) × ((p < placeCount) × ((1 ≤ n) × (n ≤ mostNumber)))) ⌝ }
-    ensures { λ _. ⌜ (now (counts .exit) ≡ set (now (counts .entry)) at (getD (now (counts .entry)) at 0 + 1)) × ((now (first .exit) ≡ opened (now (first .entry)) (p + 1) (at * runLimit + getD (now (counts .entry)) at 0) (n + 1)) × (now (last .exit) ≡ opened (now (last .entry)) p (at * runLimit + getD (now (counts .entry)) at 0) (n - 1))) ⌝ }
+) -> Verdict
+    requires { ⌜ (at < channelLimit) × (getD (now counts) at 0 ≤ runLimit) × (p < placeCount) × (1 ≤ n) × (n ≤ mostNumber) ⌝ }
+    ensures { λ r. ⌜ Relays r (lateAs (Inside p) at n) counts first last ⌝ }
 {
     let held = counts[at];
-    let q = at * Runs::LIMIT + held;
+    if held == Run::LIMIT {
+        return Verdict::TableFull;
+    }
+    let q = at * Run::LIMIT + held;
     open(first, p + 1, q, n + 1);
     open(last, p, q, n - 1);
     counts[at] = held + 1;
+    Verdict::Late
 }

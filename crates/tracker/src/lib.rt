@@ -1,11 +1,11 @@
 // The gap record of up to eight channels: which numbers never came, in whatever order they came.
 ghost use mathlib.Core.Path.{_≡_};
 ghost use Rattle.gaps.specs.Channel.{tick, heartbeat};
-ghost use Rattle.tracker.specs.SetUp.{blankWith, setUp, paper as begun};
-ghost use Rattle.tracker.specs.Arrived.{on, arrived, paper};
-ghost use Rattle.tracker.specs.Request.{answering, leaving, paper as requested};
+ghost use Rattle.tracker.specs.Number.{refusalNumber};
+ghost use Rattle.tracker.specs.SetUp.{blankWith, setUp, setUpSaid as startOf, meansStarted as begun};
+ghost use Rattle.tracker.specs.Arrived.{on, arrive, arrivalSaid, meansReply};
+ghost use Rattle.tracker.specs.Request.{request, requestLeaves, meansRequested as requested};
 use gaps::Run;
-use gaps::Runs;
 pub use lent::heartbeat_in;
 pub use lent::tick_in;
 pub use request::request_in;
@@ -14,6 +14,7 @@ use seats::Seat;
 use seats::listed;
 
 mod lent;
+mod numbers;
 mod refused;
 mod request;
 mod signs;
@@ -36,6 +37,18 @@ pub enum Start {
     Malformed,
 }
 
+impl Start {
+    // The paper's number of the refusal; 0 where it is none.
+    pub fn number(self) -> u32
+        ensures { λ r. ⌜ r ≡ refusalNumber (startOf self) ⌝ }
+    {
+        match self {
+            Start::SetUp => numbers::NONE,
+            Start::Malformed => numbers::MALFORMED,
+        }
+    }
+}
+
 // The set-up's answer, and the tracker.
 pub struct Started {
     pub verdict: Start,
@@ -52,6 +65,24 @@ pub enum Verdict {
     NumberTooLow,
     TableFull,
     Malformed,
+}
+
+impl Verdict {
+    // The paper's number of the refusal; 0 where it is none.
+    pub fn number(self) -> u32
+        ensures { λ r. ⌜ r ≡ refusalNumber (arrivalSaid self) ⌝ }
+    {
+        match self {
+            Verdict::New => numbers::NONE,
+            Verdict::Late => numbers::NONE,
+            Verdict::Duplicate => numbers::NONE,
+            Verdict::Heard => numbers::NONE,
+            Verdict::NoSuchChannel => numbers::NO_SUCH_CHANNEL,
+            Verdict::NumberTooLow => numbers::NUMBER_TOO_LOW,
+            Verdict::TableFull => numbers::TABLE_FULL,
+            Verdict::Malformed => numbers::MALFORMED,
+        }
+    }
 }
 
 // An arrival's answer, and the next tracker.
@@ -72,6 +103,19 @@ pub enum Requested {
 impl Requested {
     // The most numbers that one request asks for.
     pub const BATCH: u64 = 200;
+
+    // The paper's number of the refusal; 0 where it is none.
+    pub fn number(self) -> u32
+        ensures { λ r. ⌜ r ≡ refusalNumber (requested self) ⌝ }
+    {
+        match self {
+            Requested::Written(_) => numbers::NONE,
+            Requested::NothingMissing => numbers::NONE,
+            Requested::Malformed => numbers::MALFORMED,
+            Requested::NoSuchChannel => numbers::NO_SUCH_CHANNEL,
+            Requested::OutputShort => numbers::OUTPUT_SHORT,
+        }
+    }
 }
 
 // The first run of a channel, or why there is none.
@@ -128,7 +172,7 @@ impl Tracker {
 
     // A tick on a channel: its answer, and the next tracker.
     pub fn tick(self, channel: u16, number: i64) -> Reply
-        ensures { λ r. ⌜ paper r ≡ arrived self (on channel (tick number)) ⌝ }
+        ensures { λ r. ⌜ meansReply r ≡ arrive self (on channel (tick number)) ⌝ }
     {
         let count = self.count;
         let numbers = self.numbers;
@@ -164,7 +208,7 @@ impl Tracker {
 
     // A channel heartbeat: its answer, and the next tracker.
     pub fn heartbeat(self, channel: u16, last: i64, end: bool) -> Reply
-        ensures { λ r. ⌜ paper r ≡ arrived self (on channel (heartbeat last end)) ⌝ }
+        ensures { λ r. ⌜ meansReply r ≡ arrive self (on channel (heartbeat last end)) ⌝ }
     {
         let count = self.count;
         let numbers = self.numbers;
@@ -201,8 +245,8 @@ impl Tracker {
 
     // Writes the frame that asks for the first run of a channel, or for as many of its numbers as one request may; a refused or empty request leaves every byte as it stood.
     pub fn request(self, channel: u16, out: &mut [u8]) -> Requested
-        ensures { λ r. ⌜ requested r ≡ answering self channel (now (out .entry)) ⌝ }
-        ensures { λ r. ⌜ now (out .exit) ≡ leaving self channel (now (out .entry)) ⌝ }
+        ensures { λ r. ⌜ requested r ≡ request self channel (now (out .entry)) ⌝ }
+        ensures { λ r. ⌜ now (out .exit) ≡ requestLeaves self channel (now (out .entry)) ⌝ }
     {
         request::request_in(
             self.count,

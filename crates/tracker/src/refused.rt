@@ -1,5 +1,7 @@
 // The refusals of an arrival that come before its channel's, in their order.
-ghost use Rattle.tracker.specs.Inside.{made, Judges};
+ghost use Rattle.seats.specs.Arrays.{atEntry};
+ghost use Rattle.tracker.specs.Places.{made};
+ghost use Rattle.tracker.specs.Inside.{Judges};
 use crate::Judged;
 use crate::Tracker;
 use crate::Verdict;
@@ -17,7 +19,7 @@ pub(crate) fn judge<'a>(
     first: &'a [u64; Tracker::PLACES],
     last: &'a [u64; Tracker::PLACES],
 ) -> Judged
-    ensures { λ r. ⌜ Judges (made count (now (numbers .entry)) (now (highest .entry)) (now (ended .entry)) (now (counts .entry)) (now (first .entry)) (now (last .entry))) channel low r ⌝ }
+    ensures { λ r. ⌜ Judges (made (atEntry count numbers highest ended counts first last)) channel low r ⌝ }
 {
     let seat = seat_of(channel, count, numbers, highest, ended, counts, first, last);
     if !seat.sound {

@@ -3,16 +3,17 @@ ghost use mathlib.Core.Path.{_≡_};
 ghost use Prim.Native.Nat.{_≤_};
 ghost use lib.ListN.{length};
 ghost use Rattle.gaps.specs.Limits.{mostNumber};
-ghost use Rattle.record.specs.Paper.{paperRecord};
+ghost use Rattle.record.specs.Paper.{meansRecord};
 ghost use Rattle.record.specs.declared.Record.the-variants as variant;
+ghost use Rattle.seats.specs.Arrays.{atEntry};
+ghost use Rattle.tracker.specs.Places.{made};
 ghost use Rattle.tracker.specs.FirstRun.{lost, firstRun};
-ghost use Rattle.tracker.specs.Inside.{made, lostOf};
-ghost use Rattle.tracker.specs.Request.{asked, resendOf, fitting, answerOf, outputOf, answering, leaving, paper};
+ghost use Rattle.tracker.specs.Inside.{lostOf};
+ghost use Rattle.tracker.specs.Request.{asked, resendOf, roomForRequest, answerOf, outputAsked, request, requestLeaves, meansRequested};
 use crate::Requested;
 use crate::Tracker;
 use crate::Wanted;
 use gaps::Run;
-use gaps::Runs;
 use record::Resend;
 use seats::seat_of;
 use writer::Written;
@@ -28,7 +29,7 @@ fn first_run<'a>(
     first: &'a [u64; Tracker::PLACES],
     last: &'a [u64; Tracker::PLACES],
 ) -> Wanted
-    ensures { λ r. ⌜ lostOf r ≡ firstRun (made count (now (numbers .entry)) (now (highest .entry)) (now (ended .entry)) (now (counts .entry)) (now (first .entry)) (now (last .entry))) channel ⌝ }
+    ensures { λ r. ⌜ lostOf r ≡ firstRun (made (atEntry count numbers highest ended counts first last)) channel ⌝ }
 {
     let seat = seat_of(channel, count, numbers, highest, ended, counts, first, last);
     if !seat.sound {
@@ -41,7 +42,7 @@ fn first_run<'a>(
     if counts[at] == 0 {
         return Wanted::NothingMissing;
     }
-    let b = at * Runs::LIMIT;
+    let b = at * Run::LIMIT;
     Wanted::First(Run {
         first: first[b],
         last: last[b],
@@ -60,8 +61,8 @@ pub fn request_in<'a>(
     channel: u16,
     out: &mut [u8],
 ) -> Requested
-    ensures { λ r. ⌜ paper r ≡ answering (made count (now (numbers .entry)) (now (highest .entry)) (now (ended .entry)) (now (counts .entry)) (now (first .entry)) (now (last .entry))) channel (now (out .entry)) ⌝ }
-    ensures { λ r. ⌜ now (out .exit) ≡ leaving (made count (now (numbers .entry)) (now (highest .entry)) (now (ended .entry)) (now (counts .entry)) (now (first .entry)) (now (last .entry))) channel (now (out .entry)) ⌝ }
+    ensures { λ r. ⌜ meansRequested r ≡ request (made (atEntry count numbers highest ended counts first last)) channel (now (out .entry)) ⌝ }
+    ensures { λ r. ⌜ now (out .exit) ≡ requestLeaves (made (atEntry count numbers highest ended counts first last)) channel (now (out .entry)) ⌝ }
 {
     let wanted = first_run(channel, count, numbers, highest, ended, counts, first, last);
     match wanted {
@@ -89,7 +90,7 @@ fn asked(run: Run) -> Run
 // The numbers of the record that asks for these.
 fn resend(channel: u16, run: Run) -> Resend
     requires { ⌜ (run .first ≤ mostNumber) × (run .last ≤ mostNumber) ⌝ }
-    ensures { λ r. ⌜ paperRecord (variant.Resend r) ≡ resendOf channel run ⌝ }
+    ensures { λ r. ⌜ meansRecord (variant.Resend r) ≡ resendOf channel run ⌝ }
 {
     Resend {
         resend_type: 1,
@@ -103,10 +104,10 @@ fn resend(channel: u16, run: Run) -> Resend
 // Writes the frame that asks for the numbers of a run, where the output has room for it.
 fn ask(channel: u16, run: Run, out: &mut [u8]) -> Requested
     requires { ⌜ (run .first ≤ run .last) × (run .last ≤ mostNumber) ⌝ }
-    ensures { λ r. ⌜ paper r ≡ answerOf (fitting (length (now (out .entry))) (lost run)) ⌝ }
-    ensures { λ r. ⌜ now (out .exit) ≡ outputOf (fitting (length (now (out .entry))) (lost run)) channel (now (out .entry)) ⌝ }
+    ensures { λ r. ⌜ meansRequested r ≡ answerOf (roomForRequest (length (now (out .entry))) (lost run)) ⌝ }
+    ensures { λ r. ⌜ now (out .exit) ≡ outputAsked (roomForRequest (length (now (out .entry))) (lost run)) channel (now (out .entry)) ⌝ }
 {
-    let spaces = [b' '; 24];
+    let spaces = [b' '; layout::resend::TEXTS_SIZE];
     match writer::write_resend(resend(channel, asked(run)), &spaces, b"", out) {
         Written::Whole(n) => Requested::Written(n),
         Written::Refused(_) => Requested::OutputShort,

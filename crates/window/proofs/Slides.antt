@@ -10,7 +10,7 @@ use mathlib.Core.Bool.{Bool, true, false, cond, _&&_}
 use lib.Dec.{leb}
 use lib.ListN.{length, take, drop, getD, set, length-append, length-drop}
 use lib.Seq.{length-take-le, take-suc, drop-cons, set-at, getD-append-add, getD-drop, append-snoc}
-use Rattle.window.specs.Window.{slid, moved, kept}
+use Rattle.window.specs.Window.{slid, moved, stillHeld}
 
 -- i bytes from a place on have moved to the front
 abbrev pub sliding : List ℕ → ℕ → ℕ → List ℕ
@@ -79,10 +79,10 @@ pub moved-within : (s : List ℕ) (from to : ℕ) → moved s from to ≤ length
 unfolding moved
 moved-within s from to = moved-by s from to (leb to (length s)) (leb from to) refl refl
 
-pub kept-all : (s : List ℕ) (gathered room : ℕ) → gathered + room ≤ length s → gathered ≡ kept s gathered room
-unfolding kept
+pub kept-all : (s : List ℕ) (gathered room : ℕ) → gathered + room ≤ length s → gathered ≡ stillHeld s gathered room
+unfolding stillHeld
 kept-all s gathered room h = rw (le-leb (gathered + room) (length s) h)
 
-pub kept-none : (s : List ℕ) (gathered room : ℕ) → length s < gathered + room → 0 ≡ kept s gathered room
-unfolding kept
+pub kept-none : (s : List ℕ) (gathered room : ℕ) → length s < gathered + room → 0 ≡ stillHeld s gathered room
+unfolding stillHeld
 kept-none s gathered room h = rw (lt-leb (gathered + room) (length s) h)

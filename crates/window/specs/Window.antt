@@ -7,17 +7,17 @@ use lib.Dec.{leb}
 use lib.ListN.{length, take, drop}
 
 -- there are bytes from an offset up to another
-abbrev pub there : List ℕ → ℕ → ℕ → Bool
-there s from to = leb to (length s) && leb from to
+abbrev pub bytesThere : List ℕ → ℕ → ℕ → Bool
+bytesThere s from to = leb to (length s) && leb from to
 
 -- O1: the bytes from an offset up to another at the front, those behind them as they stood
 unfoldable pub slid : List ℕ → ℕ → ℕ → List ℕ
-slid s from to = cond (there s from to) (take (to - from) (drop from s) ++ drop (to - from) s) s
+slid s from to = cond (bytesThere s from to) (take (to - from) (drop from s) ++ drop (to - from) s) s
 
 -- how many these are
 unfoldable pub moved : List ℕ → ℕ → ℕ → ℕ
-moved s from to = cond (there s from to) (to - from) 0
+moved s from to = cond (bytesThere s from to) (to - from) 0
 
 -- O1: what is still held of the gathered bytes: all where there is room behind them, else none
-unfoldable pub kept : List ℕ → ℕ → ℕ → ℕ
-kept s gathered room = cond (leb (gathered + room) (length s)) gathered 0
+unfoldable pub stillHeld : List ℕ → ℕ → ℕ → ℕ
+stillHeld s gathered room = cond (leb (gathered + room) (length s)) gathered 0

@@ -2,20 +2,33 @@
 ghost use mathlib.Core.Path.{_≡_};
 ghost use Prim.Native.Nat.{_≤_, max};
 ghost use lib.ListN.{length, take};
-ghost use Rattle.window.specs.Window.{slid, moved, kept};
+ghost use Rattle.window.specs.Window.{slid, moved, stillHeld};
 use libc::STDIN_FILENO;
 use libc::STDOUT_FILENO;
 
-// Reads once behind the bytes that are held, which stay, and answers how many are held now: no more where the input ends or fails.
-pub fn fill(window: &mut [u8], held: usize) -> usize
-    ensures { λ r. ⌜ (held ≤ r) × (r ≤ max held (length (now (window .entry)))) × (take held (now (window .exit)) ≡ take held (now (window .entry))) ⌝ }
+// How many bytes are held behind a read or a write, and whether it failed.
+pub struct Held {
+    pub count: usize,
+    pub failed: bool,
+}
+
+// Reads once behind the bytes that are held, which stay. No more are held where the input ends, and where the read fails.
+pub fn fill(window: &mut [u8], held: usize) -> Held
+    ensures { λ r. ⌜ (held ≤ r .count) × (r .count ≤ max held (length (now (window .entry)))) × (take held (now (window .exit)) ≡ take held (now (window .entry))) ⌝ }
 {
     if window.len() < held {
-        return held;
+        return Held {
+            count: held,
+            failed: false,
+        };
     }
     let part = &mut window[held..];
     let got = libc::read(STDIN_FILENO, part);
-    held + io::count(got, part)
+    let failed = got < 0;
+    Held {
+        count: held + io::count(got, part),
+        failed,
+    }
 }
 
 // Moves the bytes from a place up to another to the front, and answers how many they are; nothing where there are no such bytes.
@@ -37,16 +50,25 @@ pub fn slide(window: &mut [u8], from: usize, to: usize) -> usize
     n
 }
 
-// Writes the bytes that are gathered where fewer than `room` are free behind them, and answers how many are still held.
-pub fn flush(out: &[u8], gathered: usize, room: usize) -> usize
-    ensures { λ r. ⌜ r ≡ kept (now (out .entry)) gathered room ⌝ }
+// Writes the bytes that are gathered where fewer than `room` are free behind them. Where the write fails, some may be written.
+pub fn flush(out: &[u8], gathered: usize, room: usize) -> Held
+    ensures { λ r. ⌜ r .count ≡ stillHeld (now (out .entry)) gathered room ⌝ }
 {
     if out.len() < gathered {
-        return 0;
+        return Held {
+            count: 0,
+            failed: false,
+        };
     }
     if out.len() - gathered < room {
-        io::write_all(STDOUT_FILENO, &out[0..gathered]);
-        return 0;
+        let whole = io::write_all(STDOUT_FILENO, &out[0..gathered]);
+        return Held {
+            count: 0,
+            failed: !whole,
+        };
     }
-    gathered
+    Held {
+        count: gathered,
+        failed: false,
+    }
 }

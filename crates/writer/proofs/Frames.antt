@@ -11,7 +11,7 @@ use Rattle.wire.specs.Answer.{accepted}
 use Rattle.wire.specs.Bytes.{Bytes, beAt, digits, part, total, checksumOf}
 use Rattle.wire.proofs.Be.{beAt-between, beAt-behind, fewer}
 use Rattle.wire.proofs.Digits.{length-digits, be-digits, digits-beAt}
-use Rattle.frame.specs.Framing.{headerWidth, sumWidth, bodyLimit, typeOf, lengthOf, framing}
+use Rattle.frame.specs.Framing.{headerWidth, sumWidth, bodyLimit, typeOf, lengthOf, read}
 use Rattle.frame.specs.declared.Frame.{Frame}
 use Rattle.frame.proofs.Framing.{read-as, whole, known-of}
 use Rattle.writer.specs.Write.{header, withSum, frameOf}
@@ -47,7 +47,7 @@ module _ (h limit : ℕ) (hd b z : List ℕ) (g : 4 ≤ h) (n : length hd ≡ h)
   in-front at w i =
       rw split (beAt-behind front _ at w (rw long (omega arith)) ∙ beAt-behind hd b at w (omega arith))
 
-  frame-reads : lengthOf h hd ≡ length b → length b ≤ limit → framing h limit bytes-of ≡ accepted (said h (typeOf hd) (length b))
+  frame-reads : lengthOf h hd ≡ length b → length b ≤ limit → read h limit bytes-of ≡ accepted (said h (typeOf hd) (length b))
   frame-reads e l =
       read-as
       (whole
@@ -94,7 +94,7 @@ module _ (type l : ℕ) (t : type < 256 ^ 4) (k : l < 256 ^ 4) where
 
 -- the frame of a body reads back, whatever stands behind it
 pub record Framed (type : ℕ) (b s : List ℕ) : Type 0 where
-  pub reads : framing headerWidth bodyLimit s ≡ accepted (said headerWidth type (length b))
+  pub reads : read headerWidth bodyLimit s ≡ accepted (said headerWidth type (length b))
   pub lent : part headerWidth (headerWidth + length b) s ≡ b
 
 pub framed : (type : ℕ) (b z : List ℕ) → type < 256 ^ 4 → length b ≤ bodyLimit → Framed type b (frameOf type b ++ z)
@@ -112,7 +112,7 @@ framed type b z t l =
 
 -- ---- what is read and written again is the same bytes
 
-module _ (h limit : ℕ) (s : List ℕ) (f : Frame) (b : Bytes s) (e : framing h limit s ≡ accepted f) where
+module _ (h limit : ℕ) (s : List ℕ) (f : Frame) (b : Bytes s) (e : read h limit s ≡ accepted f) where
   frame-again : take (f .total) s ≡ withSum (take (h + f .len) s)
   unfolding withSum
   frame-again =
@@ -127,7 +127,7 @@ unfolding header
 header-again s b i =
     rw (digits-beAt s 0 4 b (omega arith), digits-beAt s 4 4 b (omega arith)) (take-add 4 4 s)
 
-pub framed-again : (s : List ℕ) (f : Frame) → Bytes s → framing headerWidth bodyLimit s ≡ accepted f → take (f .total) s ≡ frameOf (f .kind) (part headerWidth (headerWidth + f .len) s)
+pub framed-again : (s : List ℕ) (f : Frame) → Bytes s → read headerWidth bodyLimit s ≡ accepted f → take (f .total) s ≡ frameOf (f .kind) (part headerWidth (headerWidth + f .len) s)
 framed-again s f b e =
     let a = known-of headerWidth bodyLimit s f e in
     let z : 8 + f .len - 8 ≡ f .len = omega arith in

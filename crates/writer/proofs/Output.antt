@@ -6,7 +6,7 @@ use mathlib.Core.List.{List, _++_, append-assoc}
 use native.Mathlib.Omega.{arith}
 use lib.ListN.{length, take, drop, length-append, length-drop, take-append-drop}
 use lib.Seq.{drop-drop, take-append-seam, length-take-le, drop-at, take-at, drop-append-add}
-use Rattle.wire.specs.Bytes.{digits, part, splice, placed, checksumOf}
+use Rattle.wire.specs.Bytes.{digits, part, splice, putAt, checksumOf}
 use Rattle.wire.proofs.Be.{part-length}
 use Rattle.wire.proofs.Digits.{length-digits}
 use Rattle.wire.proofs.Place.{placed-fits, length-splice, splice-more}
@@ -19,7 +19,7 @@ unfolding splice
 take-splice o b n h = rw (← h, take-append-seam)
 
 -- bytes placed behind those that the output starts with
-behind : (o a b y z : List ℕ) (n : ℕ) → y ≡ splice o 0 a → length a ≡ n → n + length b ≤ length o → z ≡ placed y n b → z ≡ splice o 0 (a ++ b)
+behind : (o a b y z : List ℕ) (n : ℕ) → y ≡ splice o 0 a → length a ≡ n → n + length b ≤ length o → z ≡ putAt y n b → z ≡ splice o 0 (a ++ b)
 behind o a b y z n e l h f =
     let i : length y ≡ length o = ap length e ∙ length-splice o 0 a (omega arith) in
     let s : splice (splice o 0 a) (0 + length a) b ≡ splice o 0 (a ++ b) = splice-more o 0 a b (omega arith) in
@@ -46,7 +46,7 @@ module _ (o : List ℕ) (t size l : ℕ) (gs : List ℕ) (k : l ≡ size + lengt
   length-fs = part-length 8 (8 + size) o (omega arith) ∙ omega arith
 
   -- header, fields and groups
-  front : (x y m : List ℕ) → x ≡ placed o 0 (digits 4 t) → y ≡ placed x 4 (digits 4 l) → m ≡ placed y (8 + size) gs → m ≡ splice o 0 (header t l ++ (fs ++ gs))
+  front : (x y m : List ℕ) → x ≡ putAt o 0 (digits 4 t) → y ≡ putAt x 4 (digits 4 l) → m ≡ putAt y (8 + size) gs → m ≡ splice o 0 (header t l ++ (fs ++ gs))
   unfolding header fs
   front x y m ex ey em =
       let a : List ℕ = digits 4 t in
@@ -68,8 +68,8 @@ module _ (o : List ℕ) (t size l : ℕ) (gs : List ℕ) (k : l ≡ size + lengt
   long = simp (length-append, length-digits, length-fs) (omega arith)
 
   -- the checksum behind them
-  pub sealed : (x y m z : List ℕ) (c : ℕ) → x ≡ placed o 0 (digits 4 t) → y ≡ placed x 4 (digits 4 l) → m ≡ placed y (8 + size) gs →
-      c ≡ checksumOf (part 0 (8 + l) m) → z ≡ placed m (8 + l) (digits 4 c) → z ≡ splice o 0 (frameOf t (part 8 (8 + size) o ++ gs))
+  pub sealed : (x y m z : List ℕ) (c : ℕ) → x ≡ putAt o 0 (digits 4 t) → y ≡ putAt x 4 (digits 4 l) → m ≡ putAt y (8 + size) gs →
+      c ≡ checksumOf (part 0 (8 + l) m) → z ≡ putAt m (8 + l) (digits 4 c) → z ≡ splice o 0 (frameOf t (part 8 (8 + size) o ++ gs))
   unfolding withSum fs
   sealed x y m z c ex ey em ec ez =
       let s : List ℕ = header t l ++ (fs ++ gs) in

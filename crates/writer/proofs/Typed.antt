@@ -13,12 +13,12 @@ use Rattle.frame.specs.Framing.{headerWidth, sumWidth, bodyLimit}
 use Rattle.layout.specs.Layout.{Message, fields, size, typeNumber}
 use Rattle.record.specs.Record.{known}
 use Rattle.bodies.specs.Body.{body, encode}
-use Rattle.bodies.specs.Parts.{judgedParts, stored}
+use Rattle.bodies.specs.Parts.{verdictOf, putFields}
 use Rattle.bodies.proofs.Bodies.{exactly}
 use Rattle.bodies.proofs.Round.{length-encode}
 use Rattle.bodies.proofs.Stores.{fits}
-use Rattle.writer.specs.Paper.{paper}
-use Rattle.writer.specs.Write.{frameOf, fitting, judgedAs, answering, leaving}
+use Rattle.writer.specs.Paper.{meansWritten}
+use Rattle.writer.specs.Write.{frameOf, roomForFrame, writeKnown, write, writeLeaves}
 use Rattle.writer.specs.declared.Refusal.{Refusal}
 use Rattle.writer.specs.declared.Written.{Written}
 use Rattle.writer.specs.declared.Written.the-variants.{Whole, Refused}
@@ -27,25 +27,25 @@ use Rattle.writer.proofs.Output.{same-length, round}
 
 -- the answer on a listed type, in the arm that the code took
 pub record Told (m : Message) (zs : List ℤ) (ts gs out : List ℕ) (a : Written) : Type 0 where
-  pub says : paper a ≡ judgedAs m zs ts gs (length out)
+  pub says : meansWritten a ≡ writeKnown m zs ts gs (length out)
 
 pub told :
-    (m : Message) {zs : List ℤ} {ts gs out : List ℕ} {v : Answer Unit} {a u : Written} → v ≡ judgedParts m zs ts gs →
-    paper a ≡ andThen v (λ (x : Unit). fitting (size (fields m) + length gs) (length out)) → a ≡ u → Told m zs ts gs out u
+    (m : Message) {zs : List ℤ} {ts gs out : List ℕ} {v : Answer Unit} {a u : Written} → v ≡ verdictOf m zs ts gs →
+    meansWritten a ≡ andThen v (λ (x : Unit). roomForFrame (size (fields m) + length gs) (length out)) → a ≡ u → Told m zs ts gs out u
 told m {zs} {ts} {gs} {out} e h i =
     record {
       says =
-          sym (ap paper i)
+          sym (ap meansWritten i)
           ∙ h
-          ∙ ap (λ (v : Answer Unit). andThen v (λ (x : Unit). fitting (size (fields m) + length gs) (length out))) e
+          ∙ ap (λ (v : Answer Unit). andThen v (λ (x : Unit). roomForFrame (size (fields m) + length gs) (length out))) e
           ∙ by-verdict m zs ts gs (length out);
     }
 
 -- a refusal: the output stays as it stood
 pub kept :
     {m : Message} {zs : List ℤ} {ts gs out : List ℕ} {x : Refusal} → Told m zs ts gs out (Refused x) →
-    (paper (Refused x) ≡ answering (known m zs) ts gs out) × (out ≡ leaving (known m zs) ts gs out)
-unfolding answering leaving
+    (meansWritten (Refused x) ≡ write (known m zs) ts gs out) × (out ≡ writeLeaves (known m zs) ts gs out)
+unfolding write writeLeaves
 kept t = (t .says, rw (sym (t .says)))
 
 -- a frame
@@ -64,12 +64,12 @@ module _ {m : Message} {zs : List ℤ} {ts gs out : List ℕ} {n : ℕ} (t : Tol
   pub room : (width + length gs ≤ bodyLimit) × (headerWidth + sumWidth + (width + length gs) ≤ length out)
   room = (says .within, omega (arith, says .there))
 
-  pub framed : {z : List ℕ} → z ≡ splice out 0 (frameOf (typeNumber m) (encode (fields m) zs ts ++ gs)) → (paper (Whole n) ≡ answering (known m zs) ts gs out) × (z ≡ leaving (known m zs) ts gs out)
-  unfolding answering leaving body
+  pub framed : {z : List ℕ} → z ≡ splice out 0 (frameOf (typeNumber m) (encode (fields m) zs ts ++ gs)) → (meansWritten (Whole n) ≡ write (known m zs) ts gs out) × (z ≡ writeLeaves (known m zs) ts gs out)
+  unfolding write writeLeaves body
   framed g = (t .says, g ∙ rw (sym (t .says)))
 
   -- the fields p in their part, and the frame round them
-  module _ {p : List ℕ} (f : p ≡ stored m zs ts (take width (drop headerWidth out))) where
+  module _ {p : List ℕ} (f : p ≡ putFields m zs ts (take width (drop headerWidth out))) where
     abbrev filled : List ℕ
     filled = take headerWidth out ++ (p ++ drop width (drop headerWidth out))
 
@@ -85,7 +85,7 @@ module _ {m : Message} {zs : List ℤ} {ts gs out : List ℕ} {n : ℕ} (t : Tol
 
     pub left :
         {z : List ℕ} → z ≡ splice filled 0 (frameOf (typeNumber m) (part headerWidth (headerWidth + width) filled ++ gs)) →
-        (paper (Whole n) ≡ answering (known m zs) ts gs out) × (z ≡ leaving (known m zs) ts gs out)
+        (meansWritten (Whole n) ≡ write (known m zs) ts gs out) × (z ≡ writeLeaves (known m zs) ts gs out)
     left {z} g =
         framed
         (round out p width long ends (typeNumber m) gs z g

@@ -10,13 +10,13 @@ use Rattle.writer.specs.declared.Written.{Written}
 use Rattle.writer.specs.declared.Written.the-variants.{Whole, Refused}
 
 -- the number of a refusal
-abbrev pub number : Refusal → ℕ
-number NotItsLayout = notItsLayout
-number OutOfRange = outOfRange
-number TooLong = tooLong
-number OutputShort = outputShort
+abbrev pub writerRefusal : Refusal → ℕ
+writerRefusal NotItsLayout = notItsLayout
+writerRefusal OutOfRange = outOfRange
+writerRefusal TooLong = tooLong
+writerRefusal OutputShort = outputShort
 
 -- the answer
-abbrev pub paper : Written → Answer ℕ
-paper (Whole n) = accepted n
-paper (Refused x) = refused (number x) []
+abbrev pub meansWritten : Written → Answer ℕ
+meansWritten (Whole n) = accepted n
+meansWritten (Refused x) = refused (writerRefusal x) []

@@ -31,21 +31,21 @@ abbrev pub frameLength : ℕ → ℕ
 frameLength l = headerWidth + l + sumWidth
 
 -- R2, R6: a body of l bytes, for an output of room bytes
-abbrev pub fitting : ℕ → ℕ → Answer ℕ
-fitting l room =
+abbrev pub roomForFrame : ℕ → ℕ → Answer ℕ
+roomForFrame l room =
     guard (ltb bodyLimit l) (refused tooLong [])
     (guard (ltb room (frameLength l)) (refused outputShort []) (accepted (frameLength l)))
 
 -- J3: 4, 5, 2, 6, of a listed type
-unfoldable pub judgedAs : Message → List ℤ → List ℕ → List ℕ → ℕ → Answer ℕ
-judgedAs m zs ts gs room =
+unfoldable pub writeKnown : Message → List ℤ → List ℕ → List ℕ → ℕ → Answer ℕ
+writeKnown m zs ts gs room =
     guard (not (exact m zs ts gs)) (refused notItsLayout [])
-    (guard (not (allIn m zs gs)) (refused outOfRange []) (fitting (bodyLength m gs) room))
+    (guard (not (allIn m zs gs)) (refused outOfRange []) (roomForFrame (bodyLength m gs) room))
 
 -- W3, J3: a type that is not listed is refused before all else
-abbrev pub judging : Reading → List ℕ → List ℕ → ℕ → Answer ℕ
-judging (known m zs) ts gs room = judgedAs m zs ts gs room
-judging (unknown type) ts gs room = refused outOfRange []
+abbrev pub writeJudged : Reading → List ℕ → List ℕ → ℕ → Answer ℕ
+writeJudged (known m zs) ts gs room = writeKnown m zs ts gs room
+writeJudged (unknown type) ts gs room = refused outOfRange []
 
 -- W2: exactly the bytes of the frame change, at the start of the output
 abbrev pub frameIn : Reading → List ℕ → List ℕ → List ℕ → List ℕ
@@ -53,14 +53,14 @@ frameIn (known m zs) ts gs out = splice out 0 (frameOf (typeNumber m) (body m zs
 frameIn (unknown type) ts gs out = out
 
 -- J6: a refusal changes no byte
-abbrev pub outputOf : Answer ℕ → Reading → List ℕ → List ℕ → List ℕ → List ℕ
-outputOf (accepted n) r ts gs out = frameIn r ts gs out
-outputOf (refused n vs) r ts gs out = out
+abbrev pub outputWritten : Answer ℕ → Reading → List ℕ → List ℕ → List ℕ → List ℕ
+outputWritten (accepted n) r ts gs out = frameIn r ts gs out
+outputWritten (refused n vs) r ts gs out = out
 
 -- W2, J3: what the writer answers: how many bytes it wrote, or a refusal
-unfoldable pub answering : Reading → List ℕ → List ℕ → List ℕ → Answer ℕ
-answering r ts gs out = judging r ts gs (length out)
+unfoldable pub write : Reading → List ℕ → List ℕ → List ℕ → Answer ℕ
+write r ts gs out = writeJudged r ts gs (length out)
 
 -- W2: what the output holds then
-unfoldable pub leaving : Reading → List ℕ → List ℕ → List ℕ → List ℕ
-leaving r ts gs out = outputOf (judging r ts gs (length out)) r ts gs out
+unfoldable pub writeLeaves : Reading → List ℕ → List ℕ → List ℕ → List ℕ
+writeLeaves r ts gs out = outputWritten (writeJudged r ts gs (length out)) r ts gs out

@@ -1,35 +1,32 @@
 // 309011, index; its texts are stream, security, source and phase.
 ghost use mathlib.Core.Path.{_≡_};
-ghost use Rattle.record.specs.Paper.{paperRecord};
+ghost use Rattle.record.specs.Paper.{meansRecord};
 ghost use Rattle.record.specs.declared.Record.the-variants as variant;
-ghost use Rattle.writer.specs.Paper.{paper};
-ghost use Rattle.writer.specs.Write.{answering, leaving};
+ghost use Rattle.writer.specs.Paper.{meansWritten};
+ghost use Rattle.writer.specs.Write.{write, writeLeaves};
 use crate::Written;
 use crate::judge;
-use crate::store::End;
 use crate::store::seal;
-use bodies::Size;
 use bodies::index_verdict;
 use bodies::put_common;
 use frame::Frame;
+use layout::index;
 use record::Index;
 use record::Record;
 
+// Where its fields end in a frame.
+const END: usize = Frame::HEADER + index::SIZE;
+
 // Writes the frame of an index, as `write` does.
 pub fn write_index(r: Index, texts: &[u8], groups: &[u8], out: &mut [u8]) -> Written
-    ensures { λ w. ⌜ paper w ≡ answering (paperRecord (variant.Index r)) (now (texts .entry)) (now (groups .entry)) (now (out .entry)) ⌝ }
-    ensures { λ w. ⌜ now (out .exit) ≡ leaving (paperRecord (variant.Index r)) (now (texts .entry)) (now (groups .entry)) (now (out .entry)) ⌝ }
+    ensures { λ w. ⌜ meansWritten w ≡ write (meansRecord (variant.Index r)) (now (texts .entry)) (now (groups .entry)) (now (out .entry)) ⌝ }
+    ensures { λ w. ⌜ now (out .exit) ≡ writeLeaves (meansRecord (variant.Index r)) (now (texts .entry)) (now (groups .entry)) (now (out .entry)) ⌝ }
 {
     let verdict = index_verdict(r, texts, groups);
-    match judge(Size::COMMON, verdict, groups.len(), out.len()) {
+    match judge(index::SIZE, verdict, groups.len(), out.len()) {
         Written::Whole(n) => {
-            put_common(
-                r.common,
-                r.count,
-                texts,
-                &mut out[Frame::HEADER..End::COMMON],
-            );
-            seal(Record::INDEX, Size::COMMON, groups, out);
+            put_common(r.common, r.count, texts, &mut out[Frame::HEADER..END]);
+            seal(Record::INDEX, index::SIZE, groups, out);
             Written::Whole(n)
         }
         Written::Refused(x) => Written::Refused(x),

@@ -2,10 +2,11 @@
 ghost use mathlib.Core.Path.{_≡_};
 ghost use Prim.Native.Nat.{_+_, _≤_};
 ghost use Rattle.wire.specs.Answer.{andThen};
+ghost use Rattle.frame.specs.Framing.{bodyLimit};
 ghost use Rattle.layout.specs.Paper as layout_paper;
-ghost use Rattle.record.specs.Paper.{paperRecord};
-ghost use Rattle.writer.specs.Paper.{paper};
-ghost use Rattle.writer.specs.Write.{fitting, answering, leaving};
+ghost use Rattle.record.specs.Paper.{meansRecord};
+ghost use Rattle.writer.specs.Paper.{meansWritten};
+ghost use Rattle.writer.specs.Write.{roomForFrame, write, writeLeaves};
 
 mod channel_heartbeat;
 mod heartbeat;
@@ -49,8 +50,8 @@ pub enum Written {
 
 // A body of fields and groups for an output of room bytes: 2, then 6.
 fn fitted(size: usize, groups: usize, room: usize) -> Written
-    requires { ⌜ size ≤ 69 ⌝ }
-    ensures { λ r. ⌜ paper r ≡ fitting (size + groups) room ⌝ }
+    requires { ⌜ size ≤ bodyLimit ⌝ }
+    ensures { λ r. ⌜ meansWritten r ≡ roomForFrame (size + groups) room ⌝ }
 {
     if Frame::BODY_LIMIT - size < groups {
         return Written::Refused(Refusal::TooLong);
@@ -64,8 +65,8 @@ fn fitted(size: usize, groups: usize, room: usize) -> Written
 
 // The verdict on texts, groups and fields, then 2 and 6 as above.
 fn judge(size: usize, verdict: Verdict, groups: usize, room: usize) -> Written
-    requires { ⌜ size ≤ 69 ⌝ }
-    ensures { λ r. ⌜ paper r ≡ andThen (layout_paper.paper verdict) (λ (u : Unit). fitting (size + groups) room) ⌝ }
+    requires { ⌜ size ≤ bodyLimit ⌝ }
+    ensures { λ r. ⌜ meansWritten r ≡ andThen (layout_paper.meansVerdict verdict) (λ (u : Unit). roomForFrame (size + groups) room) ⌝ }
 {
     match verdict {
         Verdict::Accepted => fitted(size, groups, room),
@@ -78,8 +79,8 @@ fn judge(size: usize, verdict: Verdict, groups: usize, room: usize) -> Written
 
 // Writes the frame of a record, its texts and its groups to the start of the output; a refusal leaves every byte as it stood.
 pub fn write(record: Record, texts: &[u8], groups: &[u8], out: &mut [u8]) -> Written
-    ensures { λ r. ⌜ paper r ≡ answering (paperRecord «record») (now (texts .entry)) (now (groups .entry)) (now (out .entry)) ⌝ }
-    ensures { λ r. ⌜ now (out .exit) ≡ leaving (paperRecord «record») (now (texts .entry)) (now (groups .entry)) (now (out .entry)) ⌝ }
+    ensures { λ r. ⌜ meansWritten r ≡ write (meansRecord «record») (now (texts .entry)) (now (groups .entry)) (now (out .entry)) ⌝ }
+    ensures { λ r. ⌜ now (out .exit) ≡ writeLeaves (meansRecord «record») (now (texts .entry)) (now (groups .entry)) (now (out .entry)) ⌝ }
 {
     match record {
         Record::Heartbeat => write_heartbeat(texts, groups, out),

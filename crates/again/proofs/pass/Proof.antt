@@ -27,33 +27,17 @@ frame-at c =
     (c .before .f .given .1)
 
 add-from : tie.Need-add-from Inv-loop μ-loop
-add-from c = let t = frame-at (c .before .before .before .before .before .before) in omega arith
+add-from c = let t = frame-at (c .before .before .before .before .before .before .before) in omega arith
 
 loop-less : tie.Need-loop-less Inv-loop μ-loop
-loop-less c = let t = frame-at (c .before .before .before .before .before .before) in omega arith
+loop-less c = let t = frame-at (c .before .before .before .before .before .before .before) in omega arith
 
 loop-again : tie.Need-loop-again Inv-loop μ-loop
-loop-again c = let t = frame-at (c .before .before .before .before .before .before) in (omega arith, search needs)
+loop-again c = let t = frame-at (c .before .before .before .before .before .before .before) in (omega arith, search needs)
 
 pub pass-spec : {M : Type 1} → statement M
 pass-spec =
-    tie.close
-    (tie.spec
-    Inv-loop
-    μ-loop
-    (λ c. search needs)
-    (λ c. search needs)
-    (λ c. search needs)
-    (λ c. search needs)
-    (λ c κs. search needs)
-    (λ c. search needs)
-    (λ c κs. search needs)
-    (λ c κs. search needs)
-    add-from
-    loop-less
-    loop-again
-    (λ c. search needs)
-    (λ c. search needs)
-    (λ c. search needs)
-    (λ c. search needs)
-    (λ c. search needs))
+    tie.close (tie.spec Inv-loop μ-loop (λ c. search needs) (λ c. search needs) (λ c. search needs) (λ c. search needs)
+    (λ c κs. search needs) (λ c. search needs) (λ c κs. search needs) (λ c κs. search needs) add-from loop-less
+    loop-again (λ c. search needs) (λ c. search needs) (λ c. search needs) (λ c. search needs) (λ c. search needs)
+    (λ c. search needs) (λ c. search needs))

@@ -1,17 +1,17 @@
 use borrow.Author.Needs.{needs}
 use mathlib.Core.Path.{ap, sym, _∙_}
-use Rattle.frame.specs.Framing.{paper}
+use Rattle.frame.specs.Framing.{meansFramed}
 use Rattle.orizhgum.specs.Numbers.{frameAnswer}
 use Rattle.orizhgum.proofs.orizhgum_frame.Statement.{statement}
 use Rattle.orizhgum.proofs.orizhgum_frame.Tie as tie
 
 returns : tie.Need-returns
-returns c = ap frameAnswer (sym (ap paper (c .before .f .given .1)) ∙ c .before .before .before .read .ensures)
+returns c = ap frameAnswer (sym (ap meansFramed (c .before .f .given .1)) ∙ c .before .before .before .read .ensures)
 
 returns-2 : tie.Need-returns-2
 returns-2 c =
     rw (c .number .ensures)
-    (ap frameAnswer (sym (ap paper (c .before .before .why .given .1)) ∙ c .before .before .before .before .read .ensures))
+    (ap frameAnswer (sym (ap meansFramed (c .before .before .why .given .1)) ∙ c .before .before .before .before .read .ensures))
 
 pub orizhgum-frame-spec : {M : Type 1} → statement M
 orizhgum-frame-spec =

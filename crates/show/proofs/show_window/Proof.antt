@@ -29,11 +29,14 @@ frame-at c =
 add-from : tie.Need-add-from Inv-loop μ-loop
 add-from c = let t = frame-at (c .before .before .before .before .before .before) in omega arith
 
+returns : tie.Need-returns Inv-loop μ-loop
+returns c = let t = frame-at (c .before .before .before .before .before .before .before .before .before) in omega arith
+
 loop-less : tie.Need-loop-less Inv-loop μ-loop
-loop-less c = let t = frame-at (c .before .before .before .before .before .before .before .before) in omega arith
+loop-less c = let t = frame-at (c .before .before .before .before .before .before .before .before .before) in omega arith
 
 loop-again : tie.Need-loop-again Inv-loop μ-loop
-loop-again c = let t = frame-at (c .before .before .before .before .before .before .before .before) in (omega arith, search needs)
+loop-again c = let t = frame-at (c .before .before .before .before .before .before .before .before .before) in (omega arith, search needs)
 
 pub show-window-spec : {M : Type 1} → statement M
 show-window-spec =
@@ -52,6 +55,8 @@ show-window-spec =
     add-from
     (λ c κs. search needs)
     (λ c κs. search needs)
+    (λ c. search needs)
+    returns
     loop-less
     loop-again
     (λ c. search needs)

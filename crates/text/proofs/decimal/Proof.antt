@@ -9,8 +9,8 @@ use lib.Dec.{lit<, lit≤}
 use lib.ListN.{length, take, drop, set, length-drop, length-set}
 use lib.Seq.{take-all}
 use denote.Ref.{now}
-use Rattle.wire.specs.Bytes.{placed}
-use Rattle.text.specs.Text.{decimals, decimalOf, next}
+use Rattle.wire.specs.Bytes.{putAt}
+use Rattle.text.specs.Text.{decimals, decimalOf, offsetBehind}
 use Rattle.text.proofs.Decimals.{two-places, fewer-digits, one-more, the-last}
 use Rattle.text.proofs.decimal.Statement.{statement}
 use Rattle.text.proofs.decimal.Tie as tie
@@ -53,7 +53,7 @@ returns c =
     ∙ sym (the-last (l .digits) (l .i) (l .rest) (omega arith) (omega arith) (omega arith))
     ∙ l .inv .4
     in
-    (w .word .ensures .0 ∙ ap (placed (now (a .out)) (a .at)) e, w .word .ensures .1 ∙ ap (next (now (a .out)) (a .at)) e)
+    (w .word .ensures .0 ∙ ap (putAt (now (a .out)) (a .at)) e, w .word .ensures .1 ∙ ap (offsetBehind (now (a .out)) (a .at)) e)
 
 pub decimal-spec : {M : Type 1} → statement M
 decimal-spec =

@@ -1,7 +1,7 @@
 use borrow.Author.Needs.{needs}
 use denote.Ref.{now}
 use mathlib.Core.Path.{refl}
-use Rattle.writer.specs.Write.{answering, leaving}
+use Rattle.writer.specs.Write.{write, writeLeaves}
 use Rattle.writer.proofs.Judging.{by-arm}
 use Rattle.writer.proofs.write.Statement.{statement}
 use Rattle.writer.proofs.write.Tie as tie
@@ -37,7 +37,7 @@ returns-10 : tie.Need-returns-10
 returns-10 c = by-arm _ _ _ (c .before .before .before .before .before .record9 .given .1) (c .before .before .write-trade .ensures)
 
 returns-11 : tie.Need-returns-11
-unfolding answering leaving
+unfolding write writeLeaves
 returns-11 c =
     let a = c .before .before .before .before .before .args in
     by-arm (now (a .texts)) (now (a .groups)) (now (a .out)) (c .enum-told2 .given .1) (refl, refl)

@@ -1,6 +1,6 @@
 use mathlib.Core.Path.{refl}
 use Rattle.layout.specs.Layout.{heartbeat}
-use Rattle.layout.specs.Paper.{paper}
+use Rattle.layout.specs.Paper.{meansVerdict}
 use Rattle.bodies.specs.Body.{textSize, numbersIn}
 use Rattle.bodies.proofs.Parts.{no-numbers, other-words, parts}
 use Rattle.bodies.proofs.heartbeat.heartbeat_verdict.Statement.{statement}
@@ -14,7 +14,7 @@ returns-2 : tie.Need-returns-2
 unfolding textSize numbersIn
 returns-2 c =
     let e = c .before in
-    parts heartbeat _ _ _ (e .if1 .left) (no-numbers (paper (c .none .result))) refl (c .none .ensures)
+    parts heartbeat _ _ _ (e .if1 .left) (no-numbers (meansVerdict (c .none .result))) refl (c .none .ensures)
 
 pub heartbeat-verdict-spec : {M : Type 1} → statement M
 heartbeat-verdict-spec =

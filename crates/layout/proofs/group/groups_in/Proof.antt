@@ -1,5 +1,5 @@
-use Prim.Native.Nat.{ℕ, _+_, _-_, _*_, _≤_, _<_}
-use mathlib.Core.Path.{_≡_, refl, sym, _∙_, ap}
+use Prim.Native.Nat.{_+_, _*_, _≤_}
+use mathlib.Core.Path.{_≡_, refl, sym, _∙_}
 use mathlib.Core.Bool.{true, _&&_}
 use native.Mathlib.Omega.{arith}
 use borrow.Author.Needs.{needs}
@@ -7,42 +7,42 @@ use lib.ListN.{length}
 use denote.Ref.{now}
 use Rattle.wire.proofs.Be.{part-length}
 use Rattle.layout.specs.Layout.{size, ranges}
-use Rattle.layout.specs.Paper.{meant}
+use Rattle.layout.specs.Paper.{meansGroups}
 use Rattle.layout.specs.Group as of
-use Rattle.layout.specs.Group.{fit, next, quantities, shownPlace, groupRanges}
+use Rattle.layout.specs.Group.{fit, nextOffset, quantities, shownOffset, groupRanges}
 use Rattle.layout.proofs.Walk.{Ahead, ahead, groupRanges-step, groupRanges-none, shown-here, ranges-here}
 use Rattle.layout.proofs.group.groups_in.Statement.{statement}
 use Rattle.layout.proofs.group.groups_in.Tie as tie
 
 abbrev Inv-loop : tie.InvT-loop
-Inv-loop g s at k w p₀ left₀ p left = (w ≡ size (meant g .fields)) × ((4 ≤ w) × ((fit (meant g) s p left ≡ true) × (groupRanges (meant g) s at k ≡ groupRanges (meant g) s p left)))
+Inv-loop g s at k w p₀ left₀ p left = (w ≡ size (meansGroups g .fields)) × ((4 ≤ w) × ((fit (meansGroups g) s p left ≡ true) × (groupRanges (meansGroups g) s at k ≡ groupRanges (meansGroups g) s p left)))
 
 abbrev μ-loop : tie.MeasureT-loop
 μ-loop g s at k w p₀ left₀ p left = left
 
 -- the group at p is there
-there : (c : tie.In-loop Inv-loop μ-loop) → Ahead (meant (c .before .before .before .before .args .g)) (now (c .before .before .before .before .args .s)) (c .before .loop .p) (c .before .loop .left)
+there : (c : tie.In-loop Inv-loop μ-loop) → Ahead (meansGroups (c .before .before .before .before .args .g)) (now (c .before .before .before .before .args .s)) (c .before .loop .p) (c .before .loop .left)
 there c = ahead _ _ _ _ (c .loop-test .taken) (c .before .loop .inv .1 .1 .0)
 
 -- the quantities that the group at p shows
-shown : (c : tie.After-shown Inv-loop μ-loop) → c .shown .result ≡ of.shown (meant (c .before .before .before .before .before .before .args .g)) (now (c .before .before .before .before .before .before .args .s)) (c .before .before .before .loop .p)
-shown c = c .shown .ensures .0 ∙ shown-here (meant (c .before .before .before .before .before .before .args .g)) _ (c .before .before .before .loop .p) _ (omega arith) (omega arith)
+shown : (c : tie.After-shown Inv-loop μ-loop) → c .shown .result ≡ of.shown (meansGroups (c .before .before .before .before .before .before .args .g)) (now (c .before .before .before .before .before .before .args .s)) (c .before .before .before .loop .p)
+shown c = c .shown .ensures .0 ∙ shown-here (meansGroups (c .before .before .before .before .before .before .args .g)) _ (c .before .before .before .loop .p) _ (omega arith) (omega arith)
 
 -- where the group behind it starts
-onward : (c : tie.After-shown Inv-loop μ-loop) → c .before .before .before .loop .p + c .before .before .before .before .width .result + 8 * c .shown .result ≡ next (meant (c .before .before .before .before .before .before .args .g)) (now (c .before .before .before .before .before .before .args .s)) (c .before .before .before .loop .p)
+onward : (c : tie.After-shown Inv-loop μ-loop) → c .before .before .before .loop .p + c .before .before .before .before .width .result + 8 * c .shown .result ≡ nextOffset (meansGroups (c .before .before .before .before .before .before .args .g)) (now (c .before .before .before .before .before .before .args .s)) (c .before .before .before .loop .p)
 onward c = let m = shown c in omega arith
 
 -- its fields and its quantities
-tests : (c : tie.After-quantities-in Inv-loop μ-loop) → c .before .fields-in .result && c .quantities-in .result ≡ ranges (meant (c .before .before .before .before .before .before .before .before .args .g) .fields) (now (c .before .before .before .before .before .before .before .before .args .s)) (c .before .before .before .before .before .loop .p) && quantities (of.shown (meant (c .before .before .before .before .before .before .before .before .args .g)) (now (c .before .before .before .before .before .before .before .before .args .s)) (c .before .before .before .before .before .loop .p)) (now (c .before .before .before .before .before .before .before .before .args .s)) (shownPlace (meant (c .before .before .before .before .before .before .before .before .args .g)) (c .before .before .before .before .before .loop .p))
+tests : (c : tie.After-quantities-in Inv-loop μ-loop) → c .before .fields-in .result && c .quantities-in .result ≡ ranges (meansGroups (c .before .before .before .before .before .before .before .before .args .g) .fields) (now (c .before .before .before .before .before .before .before .before .args .s)) (c .before .before .before .before .before .loop .p) && quantities (of.shown (meansGroups (c .before .before .before .before .before .before .before .before .args .g)) (now (c .before .before .before .before .before .before .before .before .args .s)) (c .before .before .before .before .before .loop .p)) (now (c .before .before .before .before .before .before .before .before .args .s)) (shownOffset (meansGroups (c .before .before .before .before .before .before .before .before .args .g)) (c .before .before .before .before .before .loop .p))
 tests c =
     let s = now (c .before .before .before .before .before .before .before .before .args .s) in
     let p = c .before .before .before .before .before .loop .p in
-    let f = c .before .fields-in .ensures ∙ ranges-here (meant (c .before .before .before .before .before .before .before .before .args .g) .fields) s p _ (omega arith) in
-    let q : p + c .before .before .before .before .before .before .width .result ≡ shownPlace (meant (c .before .before .before .before .before .before .before .before .args .g)) p = omega arith in
+    let f = c .before .fields-in .ensures ∙ ranges-here (meansGroups (c .before .before .before .before .before .before .before .before .args .g) .fields) s p _ (omega arith) in
+    let q : p + c .before .before .before .before .before .before .width .result ≡ shownOffset (meansGroups (c .before .before .before .before .before .before .before .before .args .g)) p = omega arith in
     λ i. f i && (c .quantities-in .ensures ∙ (λ j. quantities (shown (c .before .before) j) s (q j))) i
 
 loop-holds : tie.Need-loop-holds Inv-loop μ-loop
-loop-holds c = (c .width .ensures .0, (c .width .ensures .1 .0, (c .before .before .pre, refl)))
+loop-holds c = (c .width .ensures .0, (c .width .ensures .1, (c .before .before .pre, refl)))
 
 add-q : tie.Need-add-q Inv-loop μ-loop
 add-q c = omega (arith, there c .fixed)

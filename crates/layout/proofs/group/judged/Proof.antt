@@ -1,4 +1,3 @@
-use borrow.Author.Needs.{needs}
 use mathlib.Core.Path.{sym, _∙_}
 use Rattle.wire.specs.Answer.{guard}
 use Rattle.layout.proofs.group.judged.Statement.{statement}

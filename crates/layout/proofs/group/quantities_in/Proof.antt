@@ -1,6 +1,5 @@
-use Prim.Native.Nat.{ℕ, _+_, _-_, _*_, _≤_, _<_}
+use Prim.Native.Nat.{_+_, _-_, _*_, _≤_}
 use mathlib.Core.Path.{_≡_, refl, sym, _∙_, ap}
-use mathlib.Core.Bool.{true, _&&_}
 use native.Mathlib.Omega.{arith}
 use borrow.Author.Needs.{needs}
 use lib.ListN.{length}
@@ -20,10 +19,10 @@ abbrev μ-loop : tie.MeasureT-loop
 μ-loop n s at p₀ left₀ p left = left
 
 -- the quantity at p
-here : (c : tie.After-quantity Inv-loop μ-loop) → c .quantity .result ≡ ranged quantity (beAt (now (c .before .before .before .before .before .before .args .s)) (c .before .before .before .before .loop .p) 8)
+here : (c : tie.After-quantity-in-range Inv-loop μ-loop) → c .quantity-in-range .result ≡ ranged quantity (beAt (now (c .before .before .before .before .before .before .args .s)) (c .before .before .before .before .loop .p) 8)
 here c =
     let p = c .before .before .before .before .loop .p in
-    c .quantity .ensures
+    c .quantity-in-range .ensures
     ∙ ap (ranged quantity) (c .before .be8 .ensures ∙ beAt-here (now (c .before .before .before .before .before .before .args .s)) p (p + 8 - p) 8 (omega arith))
 
 loop-holds : tie.Need-loop-holds Inv-loop μ-loop

@@ -1,35 +1,34 @@
-use Prim.Native.Nat.{ℕ, _+_, _-_, _*_, _≤_, _<_}
-use mathlib.Core.Path.{_≡_, refl, sym, _∙_}
+use Prim.Native.Nat.{_+_, _*_, _≤_}
+use mathlib.Core.Path.{_≡_, refl, _∙_}
 use native.Mathlib.Omega.{arith}
-use borrow.Author.Needs.{needs}
 use lib.ListN.{length}
 use denote.Ref.{now}
 use Rattle.wire.proofs.Be.{part-length}
 use Rattle.layout.specs.Layout.{size}
-use Rattle.layout.specs.Paper.{meant}
+use Rattle.layout.specs.Paper.{meansGroups}
 use Rattle.layout.specs.Group as of
-use Rattle.layout.specs.Group.{fit, next}
+use Rattle.layout.specs.Group.{fit, nextOffset}
 use Rattle.layout.proofs.Walk.{fit-none, fit-short, fit-behind, fit-on, place-step, place-none, shown-here, stops, ends}
 use Rattle.layout.proofs.group.walk.Statement.{statement}
 use Rattle.layout.proofs.group.walk.Tie as tie
 
 abbrev Inv-loop : tie.InvT-loop
 Inv-loop g s at k n w p₀ left₀ p left =
-    (n ≡ length s) × ((w ≡ size (meant g .fields)) × ((4 ≤ w) × ((fit (meant g) s at k ≡ fit (meant g) s p left) × (of.place (meant g) s at k ≡ of.place (meant g) s p left))))
+    (n ≡ length s) × ((w ≡ size (meansGroups g .fields)) × ((4 ≤ w) × ((fit (meansGroups g) s at k ≡ fit (meansGroups g) s p left) × (of.groupOffset (meansGroups g) s at k ≡ of.groupOffset (meansGroups g) s p left))))
 
 abbrev μ-loop : tie.MeasureT-loop
 μ-loop g s at k n w p₀ left₀ p left = left
 
 -- the quantities that the group at p shows
-shown : (c : tie.After-shown Inv-loop μ-loop) → c .shown .result ≡ of.shown (meant (c .before .before .before .before .before .before .before .before .args .g)) (now (c .before .before .before .before .before .before .before .before .args .s)) (c .before .before .before .before .before .loop .p)
-shown c = c .shown .ensures .0 ∙ shown-here (meant (c .before .before .before .before .before .before .before .before .args .g)) _ (c .before .before .before .before .before .loop .p) _ (omega arith) (omega arith)
+shown : (c : tie.After-shown Inv-loop μ-loop) → c .shown .result ≡ of.shown (meansGroups (c .before .before .before .before .before .before .before .before .args .g)) (now (c .before .before .before .before .before .before .before .before .args .s)) (c .before .before .before .before .before .loop .p)
+shown c = c .shown .ensures .0 ∙ shown-here (meansGroups (c .before .before .before .before .before .before .before .before .args .g)) _ (c .before .before .before .before .before .loop .p) _ (omega arith) (omega arith)
 
 -- where the group behind it starts
-onward : (c : tie.After-shown Inv-loop μ-loop) → c .before .before .before .before .before .loop .p + c .before .before .before .before .before .before .width .result + 8 * c .shown .result ≡ next (meant (c .before .before .before .before .before .before .before .before .args .g)) (now (c .before .before .before .before .before .before .before .before .args .s)) (c .before .before .before .before .before .loop .p)
+onward : (c : tie.After-shown Inv-loop μ-loop) → c .before .before .before .before .before .loop .p + c .before .before .before .before .before .before .width .result + 8 * c .shown .result ≡ nextOffset (meansGroups (c .before .before .before .before .before .before .before .before .args .g)) (now (c .before .before .before .before .before .before .before .before .args .s)) (c .before .before .before .before .before .loop .p)
 onward c = let m = shown c in omega arith
 
 loop-holds : tie.Need-loop-holds Inv-loop μ-loop
-loop-holds c = (refl, (c .width .ensures .0, (c .width .ensures .1 .0, (refl, refl))))
+loop-holds c = (refl, (c .width .ensures .0, (c .width .ensures .1, (refl, refl))))
 
 shown-requires : tie.Need-shown-requires Inv-loop μ-loop
 shown-requires c κs =
@@ -41,23 +40,23 @@ returns : tie.Need-returns Inv-loop μ-loop
 returns c =
     let a = c .before .before .before .before .before .before .args in
     let o = c .before .before .before .loop in
-    stops (meant (a .g)) (now (a .s)) (a .at) (a .k) (c .short .ensures)
-    (o .inv .1 .1 .1 .0 ∙ fit-short (meant (a .g)) (now (a .s)) (o .p) (o .left) (c .before .before .loop-test .taken) (omega arith))
+    stops (meansGroups (a .g)) (now (a .s)) (a .at) (a .k) (c .short .ensures)
+    (o .inv .1 .1 .1 .0 ∙ fit-short (meansGroups (a .g)) (now (a .s)) (o .p) (o .left) (c .before .before .loop-test .taken) (omega arith))
 
 returns-2 : tie.Need-returns-2 Inv-loop μ-loop
 returns-2 c =
     let a = c .before .before .before .before .before .before .before .args in
     let o = c .before .before .before .before .loop in
-    stops (meant (a .g)) (now (a .s)) (a .at) (a .k) (c .short2 .ensures)
-    (o .inv .1 .1 .1 .0 ∙ fit-short (meant (a .g)) (now (a .s)) (o .p) (o .left) (c .before .before .before .loop-test .taken) (omega arith))
+    stops (meansGroups (a .g)) (now (a .s)) (a .at) (a .k) (c .short2 .ensures)
+    (o .inv .1 .1 .1 .0 ∙ fit-short (meansGroups (a .g)) (now (a .s)) (o .p) (o .left) (c .before .before .before .loop-test .taken) (omega arith))
 
 returns-3 : tie.Need-returns-3 Inv-loop μ-loop
 returns-3 c =
     let a = c .before .before .before .before .before .before .before .before .before .before .args in
     let o = c .before .before .before .before .before .before .before .loop in
     let e = onward (c .before .before) in
-    stops (meant (a .g)) (now (a .s)) (a .at) (a .k) (c .short3 .ensures)
-    (o .inv .1 .1 .1 .0 ∙ fit-behind (meant (a .g)) (now (a .s)) (o .p) (o .left) (c .before .before .before .before .before .before .loop-test .taken) (omega arith))
+    stops (meansGroups (a .g)) (now (a .s)) (a .at) (a .k) (c .short3 .ensures)
+    (o .inv .1 .1 .1 .0 ∙ fit-behind (meansGroups (a .g)) (now (a .s)) (o .p) (o .left) (c .before .before .before .before .before .before .loop-test .taken) (omega arith))
 
 loop-again : tie.Need-loop-again Inv-loop μ-loop
 loop-again c =
@@ -71,8 +70,8 @@ loop-again c =
         (
           o .inv .1 .1 .0,
           (
-            o .inv .1 .1 .1 .0 ∙ fit-on (meant (a .g)) (now (a .s)) (o .p) (o .left) t (omega arith) ∙ rw (← e),
-            o .inv .1 .1 .1 .1 ∙ place-step (meant (a .g)) (now (a .s)) (o .p) (o .left) t ∙ rw (← e),
+            o .inv .1 .1 .1 .0 ∙ fit-on (meansGroups (a .g)) (now (a .s)) (o .p) (o .left) t (omega arith) ∙ rw (← e),
+            o .inv .1 .1 .1 .1 ∙ place-step (meansGroups (a .g)) (now (a .s)) (o .p) (o .left) t ∙ rw (← e),
           ),
         ),
       ),
@@ -83,7 +82,7 @@ returns-4 c =
     let a = c .before .before .before .before .args in
     let o = c .before .loop in
     let t = c .loop-test .left in
-    ends (meant (a .g)) (now (a .s)) (a .at) (a .k) (o .inv .1 .1 .1 .0 ∙ fit-none _ _ _ _ t) (o .inv .1 .1 .1 .1 ∙ place-none _ _ _ _ t)
+    ends (meansGroups (a .g)) (now (a .s)) (a .at) (a .k) (o .inv .1 .1 .1 .0 ∙ fit-none _ _ _ _ t) (o .inv .1 .1 .1 .1 ∙ place-none _ _ _ _ t)
 
 pub walk-spec : {M : Type 1} → statement M
 walk-spec =

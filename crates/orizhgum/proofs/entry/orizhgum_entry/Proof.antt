@@ -1,5 +1,5 @@
 use borrow.Author.Needs.{needs}
-use Rattle.entries.specs.Paper.{paperAskedEntry}
+use Rattle.entries.specs.Paper.{meansAskedEntry}
 use Rattle.orizhgum.specs.Entries.{entryAnswer}
 use Rattle.orizhgum.proofs.Answered.{answers}
 use Rattle.orizhgum.proofs.entry.orizhgum_entry.Statement.{statement}
@@ -7,15 +7,15 @@ use Rattle.orizhgum.proofs.entry.orizhgum_entry.Tie as tie
 
 returns : tie.Need-returns
 unfolding entryAnswer
-returns c = rw (c .without-price .ensures) (answers paperAskedEntry entryAnswer (c .before .before .e .given .1) (c .before .before .before .before .entry-of .ensures))
+returns c = rw (c .without-price .ensures) (answers meansAskedEntry entryAnswer (c .before .before .e .given .1) (c .before .before .before .before .entry-of .ensures))
 
 returns-2 : tie.Need-returns-2
 unfolding entryAnswer
-returns-2 c = rw (c .no-entry .ensures) (answers paperAskedEntry entryAnswer (c .before .enum-told .given .1) (c .before .before .before .entry-of .ensures))
+returns-2 c = rw (c .no-entry .ensures) (answers meansAskedEntry entryAnswer (c .before .enum-told .given .1) (c .before .before .before .entry-of .ensures))
 
 returns-3 : tie.Need-returns-3
 unfolding entryAnswer
-returns-3 c = rw (c .no-entry2 .ensures, c .before .number .ensures) (answers paperAskedEntry entryAnswer (c .before .before .before .x .given .1) (c .before .before .before .before .before .entry-of .ensures))
+returns-3 c = rw (c .no-entry2 .ensures, c .before .number .ensures) (answers meansAskedEntry entryAnswer (c .before .before .before .x .given .1) (c .before .before .before .before .before .entry-of .ensures))
 
 pub orizhgum-entry-spec : {M : Type 1} → statement M
 orizhgum-entry-spec = tie.close (tie.spec

@@ -4,7 +4,7 @@ use mathlib.Core.Path.{_∙_}
 use Rattle.record.specs.Asked.{Asked}
 use Rattle.entries.specs.Entry.{Entry}
 use Rattle.wire.specs.Answer.{Answer}
-use Rattle.entries.specs.Paper.{paperAskedEntry}
+use Rattle.entries.specs.Paper.{meansAskedEntry}
 use Rattle.orizhgum.specs.Entries.{pricing, pricedLeft}
 use Rattle.orizhgum.proofs.Answered.{answers}
 use Rattle.orizhgum.proofs.entry.orizhgum_entry_price.Statement.{statement}
@@ -12,15 +12,15 @@ use Rattle.orizhgum.proofs.entry.orizhgum_entry_price.Tie as tie
 
 returns : tie.Need-returns
 unfolding pricing pricedLeft
-returns c = (c .give .ensures .0 ∙ (answers paperAskedEntry pricing (c .before .before .before .e .given .1) (c .before .before .before .before .before .entry-of .ensures)), c .give .ensures .1 ∙ (answers paperAskedEntry (λ (a : Answer (Asked Entry)). pricedLeft a (now (c .before .before .before .before .before .before .before .args .price))) (c .before .before .before .e .given .1) (c .before .before .before .before .before .entry-of .ensures)))
+returns c = (c .give .ensures .0 ∙ (answers meansAskedEntry pricing (c .before .before .before .e .given .1) (c .before .before .before .before .before .entry-of .ensures)), c .give .ensures .1 ∙ (answers meansAskedEntry (λ (a : Answer (Asked Entry)). pricedLeft a (now (c .before .before .before .before .before .before .before .args .price))) (c .before .before .before .e .given .1) (c .before .before .before .before .before .entry-of .ensures)))
 
 returns-2 : tie.Need-returns-2
 unfolding pricing pricedLeft
-returns-2 c = ((answers paperAskedEntry pricing (c .enum-told .given .1) (c .before .before .entry-of .ensures)), (answers paperAskedEntry (λ (a : Answer (Asked Entry)). pricedLeft a (now (c .before .before .before .before .args .price))) (c .enum-told .given .1) (c .before .before .entry-of .ensures)))
+returns-2 c = ((answers meansAskedEntry pricing (c .enum-told .given .1) (c .before .before .entry-of .ensures)), (answers meansAskedEntry (λ (a : Answer (Asked Entry)). pricedLeft a (now (c .before .before .before .before .args .price))) (c .enum-told .given .1) (c .before .before .entry-of .ensures)))
 
 returns-3 : tie.Need-returns-3
 unfolding pricing pricedLeft
-returns-3 c = (c .number .ensures ∙ (answers paperAskedEntry pricing (c .before .before .x .given .1) (c .before .before .before .before .entry-of .ensures)), (answers paperAskedEntry (λ (a : Answer (Asked Entry)). pricedLeft a (now (c .before .before .before .before .before .before .args .price))) (c .before .before .x .given .1) (c .before .before .before .before .entry-of .ensures)))
+returns-3 c = (c .number .ensures ∙ (answers meansAskedEntry pricing (c .before .before .x .given .1) (c .before .before .before .before .entry-of .ensures)), (answers meansAskedEntry (λ (a : Answer (Asked Entry)). pricedLeft a (now (c .before .before .before .before .before .before .args .price))) (c .before .before .x .given .1) (c .before .before .before .before .entry-of .ensures)))
 
 pub orizhgum-entry-price-spec : {M : Type 1} → statement M
 orizhgum-entry-price-spec = tie.close (tie.spec

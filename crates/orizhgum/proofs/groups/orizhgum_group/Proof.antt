@@ -2,7 +2,7 @@ use Prim.Native.Nat.{ℕ}
 use borrow.Author.Needs.{needs}
 use lib.IntN.{ℤ}
 use mathlib.Core.List.{List}
-use Rattle.record.specs.Asked.{Told, Asked}
+use Rattle.record.specs.Asked.{WithTexts, Asked}
 use Rattle.record.specs.Paper as record-paper
 use Rattle.record.specs.declared.group.GroupAnswer.{GroupAnswer}
 use Rattle.record.proofs.Tell.{with-texts}
@@ -11,8 +11,8 @@ use Rattle.orizhgum.proofs.Answered.{answers}
 use Rattle.orizhgum.proofs.groups.orizhgum_group.Statement.{statement}
 use Rattle.orizhgum.proofs.groups.orizhgum_group.Tie as tie
 
-reading : List ℕ → ℕ → GroupAnswer → Told (Asked (List ℤ))
-reading b n a = with-texts (record-paper.groupAnswer a) b n
+reading : List ℕ → ℕ → GroupAnswer → WithTexts (Asked (List ℤ))
+reading b n a = with-texts (record-paper.meansGroupAnswer a) b n
 
 returns : tie.Need-returns
 unfolding reading groupAnswer

@@ -4,7 +4,7 @@ use denote.Ref.{now}
 use mathlib.Core.Path.{sym, _∙_}
 use Rattle.wire.specs.Answer.{Answer}
 use Rattle.layout.specs.Layout.{named}
-use Rattle.layout.specs.Paper.{paper}
+use Rattle.layout.specs.Paper.{meansVerdict}
 use Rattle.orizhgum.specs.Numbers.{answerNumber}
 use Rattle.orizhgum.proofs.Answered.{answers}
 use Rattle.orizhgum.proofs.Shown.{unlisted-judged, listed-judged}
@@ -20,14 +20,14 @@ returns-2 : tie.Need-returns-2
 returns-2 c =
     let j = c .before .before in
     let a = j .before .before .before .before .args in
-    answers paper (λ (v : Answer Unit). answerNumber v) (c .enum-told .given .1) (j .judge .ensures)
+    answers meansVerdict (λ (v : Answer Unit). answerNumber v) (c .enum-told .given .1) (j .judge .ensures)
     ∙ listed-judged (named (a .kind)) (now (a .body)) (sym (j .before .before .listed .ensures) ∙ not-false _ (j .before .if1 .left))
 
 returns-3 : tie.Need-returns-3
 returns-3 c =
     let j = c .before .before .before .before in
     let a = j .before .before .before .before .args in
-    c .number .ensures ∙ answers paper (λ (v : Answer Unit). answerNumber v) (c .before .before .x .given .1) (j .judge .ensures)
+    c .number .ensures ∙ answers meansVerdict (λ (v : Answer Unit). answerNumber v) (c .before .before .x .given .1) (j .judge .ensures)
     ∙ listed-judged (named (a .kind)) (now (a .body)) (sym (j .before .before .listed .ensures) ∙ not-false _ (j .before .if1 .left))
 
 pub orizhgum-judge-spec : {M : Type 1} → statement M

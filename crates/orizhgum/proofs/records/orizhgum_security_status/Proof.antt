@@ -1,27 +1,34 @@
 use borrow.Author.Needs.{needs}
+use Prim.Native.Nat.{ℕ}
 use denote.Ref.{now}
-use native.Mathlib.Omega.{arith}
-use Rattle.layout.specs.Layout.{securityStatus, typeNumber}
-use Rattle.record.specs.Record.{reading}
-use Rattle.orizhgum.proofs.Shown.{shown-by, within}
+use mathlib.Core.List.{List, []}
+use mathlib.Core.Path.{refl, ap, _∙_}
+use lib.Dec.{lit<}
+use Rattle.layout.proofs.Walk.{has-all}
+use Rattle.layout.specs.Layout.{securityStatus, fields, size, texts}
+use Rattle.record.specs.Asked.{filled}
+use Rattle.record.specs.Record.{numbersAs}
+use Rattle.record.proofs.Had.{had-none, had-all}
+use Rattle.record.proofs.Tell.{found-by}
+use Rattle.orizhgum.proofs.Shown.{shown-accepted, shown-refused}
 use Rattle.orizhgum.proofs.records.orizhgum_security_status.Statement.{statement}
 use Rattle.orizhgum.proofs.records.orizhgum_security_status.Tie as tie
 
-part-end : tie.Need-part-security-status-of-end
-part-end c =
-    let s = now (c .before .before .before .args .body) in
-    omega (arith, within (reading (typeNumber securityStatus) s) s (c .before .hear .ensures))
-
 returns : tie.Need-returns
-returns c = shown-by securityStatus (now (c .before .before .before .before .before .args .body)) (c .before .before .before .hear .ensures) (c .security-status-of .ensures)
+returns c =
+    let s = now (c .before .before .before .before .before .before .before .args .body) in
+    let e = found-by (c .before .before .before .enum-told .given .1) (c .before .before .before .before .before .judge-security-status .ensures) in
+    let h = had-all securityStatus s (has-all securityStatus s e .long) in
+    shown-accepted securityStatus s e (c .security-status-of .ensures ∙ ap (numbersAs securityStatus) h) (c .before .before .security-status-texts .ensures .0 ∙ ap (λ (l : List ℕ). filled (texts (fields securityStatus) l 0)) h)
+
+returns-2 : tie.Need-returns-2
+unfolding size
+returns-2 c =
+    let s = now (c .before .before .before .before .before .before .before .before .args .body) in
+    let e = found-by (c .before .before .before .before .x .given .1) (c .before .before .before .before .before .before .judge-security-status .ensures) in
+    rw (c .before .before .number .ensures) (shown-refused securityStatus s e (c .security-status-of2 .ensures ∙ ap (numbersAs securityStatus) (had-none securityStatus [] (lit< tt))) refl)
 
 pub orizhgum-security-status-spec : {M : Type 1} → statement M
 orizhgum-security-status-spec =
-    tie.close
-    (tie.spec
-    (λ c κs. search needs)
-    (λ c. search needs)
-    (λ c. search needs)
-    part-end
-    (λ c κs. search needs)
-    returns)
+    tie.close (tie.spec (λ c κs. tt) (λ c. search needs) (λ c κs. tt) (λ c κs. tt) (λ c. search needs)
+    (λ c κs. tt) (λ c. search needs) (λ c. search needs) (λ c. search needs) (λ c κs. tt) returns returns-2)

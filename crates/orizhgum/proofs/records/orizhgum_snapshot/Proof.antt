@@ -1,27 +1,34 @@
 use borrow.Author.Needs.{needs}
+use Prim.Native.Nat.{ℕ}
 use denote.Ref.{now}
-use native.Mathlib.Omega.{arith}
-use Rattle.layout.specs.Layout.{snapshot, typeNumber}
-use Rattle.record.specs.Record.{reading}
-use Rattle.orizhgum.proofs.Shown.{shown-by, within}
+use mathlib.Core.List.{List, []}
+use mathlib.Core.Path.{refl, ap, _∙_}
+use lib.Dec.{lit<}
+use Rattle.layout.proofs.Walk.{has-all}
+use Rattle.layout.specs.Layout.{snapshot, fields, size, texts}
+use Rattle.record.specs.Asked.{filled}
+use Rattle.record.specs.Record.{numbersAs}
+use Rattle.record.proofs.Had.{had-none, had-all}
+use Rattle.record.proofs.Tell.{found-by}
+use Rattle.orizhgum.proofs.Shown.{shown-accepted, shown-refused}
 use Rattle.orizhgum.proofs.records.orizhgum_snapshot.Statement.{statement}
 use Rattle.orizhgum.proofs.records.orizhgum_snapshot.Tie as tie
 
-part-end : tie.Need-part-snapshot-of-end
-part-end c =
-    let s = now (c .before .before .before .args .body) in
-    omega (arith, within (reading (typeNumber snapshot) s) s (c .before .hear .ensures))
-
 returns : tie.Need-returns
-returns c = shown-by snapshot (now (c .before .before .before .before .before .args .body)) (c .before .before .before .hear .ensures) (c .snapshot-of .ensures)
+returns c =
+    let s = now (c .before .before .before .before .before .before .before .args .body) in
+    let e = found-by (c .before .before .before .enum-told .given .1) (c .before .before .before .before .before .judge-snapshot .ensures) in
+    let h = had-all snapshot s (has-all snapshot s e .long) in
+    shown-accepted snapshot s e (c .snapshot-of .ensures ∙ ap (numbersAs snapshot) h) (c .before .before .snapshot-texts .ensures .0 ∙ ap (λ (l : List ℕ). filled (texts (fields snapshot) l 0)) h)
+
+returns-2 : tie.Need-returns-2
+unfolding size
+returns-2 c =
+    let s = now (c .before .before .before .before .before .before .before .before .args .body) in
+    let e = found-by (c .before .before .before .before .x .given .1) (c .before .before .before .before .before .before .judge-snapshot .ensures) in
+    rw (c .before .before .number .ensures) (shown-refused snapshot s e (c .snapshot-of2 .ensures ∙ ap (numbersAs snapshot) (had-none snapshot [] (lit< tt))) refl)
 
 pub orizhgum-snapshot-spec : {M : Type 1} → statement M
 orizhgum-snapshot-spec =
-    tie.close
-    (tie.spec
-    (λ c κs. search needs)
-    (λ c. search needs)
-    (λ c. search needs)
-    part-end
-    (λ c κs. search needs)
-    returns)
+    tie.close (tie.spec (λ c κs. tt) (λ c. search needs) (λ c κs. tt) (λ c κs. tt) (λ c. search needs)
+    (λ c κs. tt) (λ c. search needs) (λ c. search needs) (λ c. search needs) (λ c κs. tt) returns returns-2)

@@ -1,6 +1,6 @@
 use borrow.Author.Needs.{needs}
 use mathlib.Core.Path.{refl}
-use Rattle.writer.specs.Paper.{paper}
+use Rattle.writer.specs.Paper.{meansWritten}
 use Rattle.orizhgum.specs.Written.{writeAnswer}
 use Rattle.orizhgum.proofs.Answered.{answers}
 use Rattle.orizhgum.proofs.written.answer_of.Statement.{statement}
@@ -8,12 +8,12 @@ use Rattle.orizhgum.proofs.written.answer_of.Tie as tie
 
 returns : tie.Need-returns
 unfolding writeAnswer
-returns c = answers paper writeAnswer (c .before .written .given .1) refl
+returns c = answers meansWritten writeAnswer (c .before .written .given .1) refl
 
 returns-2 : tie.Need-returns-2
 unfolding writeAnswer
 returns-2 c =
-    rw (c .refusal-number .ensures) (answers paper writeAnswer (c .before .before .written2 .given .1) refl)
+    rw (c .refusal-number .ensures) (answers meansWritten writeAnswer (c .before .before .written2 .given .1) refl)
 
 pub answer-of-spec : {M : Type 1} → statement M
 answer-of-spec =

@@ -1,21 +1,27 @@
 use borrow.Author.Needs.{needs}
 use denote.Ref.{now}
-use mathlib.Core.Path.{refl, _∙_}
-use Rattle.layout.specs.Layout.{channelHeartbeat, texts}
+use Prim.Native.Nat.{ℕ}
+use mathlib.Core.List.{List}
+use mathlib.Core.Path.{ap, _∙_}
+use Rattle.layout.proofs.Walk.{has-all}
+use Rattle.layout.specs.Layout.{channelHeartbeat, fields, texts}
+use Rattle.record.specs.Record.{numbersAs}
+use Rattle.record.proofs.Had.{had-all}
 use Rattle.record.proofs.Tell.{tell, refuse, found-by}
 use Rattle.record.proofs.channel_heartbeat.read.Statement.{statement}
 use Rattle.record.proofs.channel_heartbeat.read.Tie as tie
 
 returns : tie.Need-returns
-unfolding texts
 returns c =
     let s = now (c .before .before .before .before .before .before .args .body) in
-    tell channelHeartbeat s (found-by (c .before .before .enum-told .given .1) (c .before .before .before .before .judge .ensures))
-    (c .before .channel-heartbeat-of .ensures) refl (c .no-texts .ensures .0) (c .no-texts .ensures .1)
+    let e = found-by (c .before .before .enum-told .given .1) (c .before .before .before .before .judge-channel-heartbeat .ensures) in
+    let h = had-all channelHeartbeat s (has-all channelHeartbeat s e .long) in
+    tell channelHeartbeat s e (c .before .channel-heartbeat-of .ensures ∙ ap (numbersAs channelHeartbeat) h) (ap (λ (l : List ℕ). texts (fields channelHeartbeat) l 0) h)
+    (c .channel-heartbeat-texts .ensures .0) (c .channel-heartbeat-texts .ensures .1)
 
 returns-2 : tie.Need-returns-2
 returns-2 c =
-    c .refused .ensures ∙ refuse channelHeartbeat (now (c .before .before .before .before .before .before .args .body)) (found-by (c .before .before .x .given .1) (c .before .before .before .before .judge .ensures))
+    c .refused .ensures ∙ refuse channelHeartbeat (now (c .before .before .before .before .before .before .args .body)) (found-by (c .before .before .x .given .1) (c .before .before .before .before .judge-channel-heartbeat .ensures))
 
 pub read-spec : {M : Type 1} → statement M
 read-spec =

@@ -39,7 +39,7 @@ returns-2 c =
 returns-3 : tie.Need-returns-3
 returns-3 c =
     let x = c .before .before .x .given .0 .0 in
-    (λ i. record { answer = refused (framing.number x) (framing.values x); texts = c .no-texts .ensures .0 i; used = c .no-texts .ensures .1 i })
+    (λ i. record { answer = refused (framing.frameRefusal x) (framing.refusalValues x); texts = c .no-texts .ensures .0 i; used = c .no-texts .ensures .1 i })
     ∙ frame-refused (now (c .before .before .before .before .before .before .args .s)) (framed-by (c .before .before .x .given .1) (c .before .before .before .before .read .ensures))
 
 pub read-frame-spec : {M : Type 1} → statement M

@@ -6,14 +6,14 @@ use native.Mathlib.Omega.{arith}
 use lib.ListN.{length}
 use Rattle.wire.specs.Bytes.{beAt, part}
 use Rattle.layout.specs.Paper as layout-paper
-use Rattle.layout.specs.Group.{place, placeFrom}
+use Rattle.layout.specs.Group.{groupOffset, offsetFrom}
 use Rattle.layout.proofs.Walk.{place-within, place-behind}
 use Rattle.record.proofs.group.behind.Statement.{statement}
 use Rattle.record.proofs.group.behind.Tie as tie
 
 -- where the groups end
-ends : (c : tie.After-place) → c .place .result ≡ place (layout-paper.meant (c .before .before .before .args .g)) (now (c .before .before .before .args .body)) (c .before .before .before .args .end) (beAt (now (c .before .before .before .args .body)) (c .before .before .before .args .end - 4) 4)
-unfolding placeFrom
+ends : (c : tie.After-place) → c .place .result ≡ groupOffset (layout-paper.meansGroups (c .before .before .before .args .g)) (now (c .before .before .before .args .body)) (c .before .before .before .args .end) (beAt (now (c .before .before .before .args .body)) (c .before .before .before .args .end - 4) 4)
+unfolding offsetFrom
 ends c = c .place .ensures ∙ rw (c .before .be4 .ensures, c .before .before .before .pre .1)
 
 start : (c : tie.After-place) → c .before .before .before .args .end ≤ c .place .result

@@ -1,13 +1,11 @@
-use borrow.Author.Needs.{needs}
 use denote.Ref.{now}
-use native.Mathlib.Omega.{arith}
 use lib.IntN.{pos}
-use mathlib.Core.Path.{refl, _∙_}
 use mathlib.Core.List.{[], _∷_}
+use mathlib.Core.Path.{ap, sym, _∙_}
 use Rattle.wire.specs.Bytes.{beAt}
 use Rattle.layout.specs.Layout.{order, size, values}
-use Rattle.record.specs.Record.{known}
-use Rattle.record.proofs.Had.{had-none, numbers-head}
+use Rattle.record.specs.Record.{known, numbersAs}
+use Rattle.record.proofs.Had.{had-none, had-all}
 use Rattle.record.proofs.Tell.{kept}
 use Rattle.record.proofs.order.order_of.Statement.{statement}
 use Rattle.record.proofs.order.order_of.Tie as tie
@@ -29,9 +27,8 @@ returns-2 c =
     ∷ kept (c .before .i64-at4 .ok) (c .before .i64-at4 .ensures) i
     ∷ pos (c .be12 .ensures i)
     ∷ []))
-    ∙ numbers-head order (now (c .before .before .before .before .before .before .before .before .before .before .args .body)) 51 refl (omega (arith, c .before .before .before .before .before .before .before .before .if1 .left))
+    ∙ ap (numbersAs order) (sym (had-all order (now (c .before .before .before .before .before .before .before .before .before .args .body)) (c .before .before .before .before .before .before .before .if1 .left)))
 
 pub order-of-spec : {M : Type 1} → statement M
 order-of-spec =
-    tie.close (tie.spec returns (λ c. search needs) (λ c. search needs) (λ c. search needs) (λ c κs. tt) (λ c κs. tt) (λ c κs. tt) (λ c κs. tt) (λ c κs. tt) (λ c κs. tt) (λ c κs. tt)
-    returns-2)
+    tie.close (tie.spec returns (λ c κs. tt) (λ c κs. tt) (λ c κs. tt) (λ c κs. tt) (λ c κs. tt) (λ c κs. tt) (λ c κs. tt) returns-2)

@@ -1,21 +1,27 @@
 use borrow.Author.Needs.{needs}
 use denote.Ref.{now}
-use mathlib.Core.Path.{refl, _∙_}
-use Rattle.layout.specs.Layout.{statistics, texts}
+use Prim.Native.Nat.{ℕ}
+use mathlib.Core.List.{List}
+use mathlib.Core.Path.{ap, _∙_}
+use Rattle.layout.proofs.Walk.{has-all}
+use Rattle.layout.specs.Layout.{statistics, fields, texts}
+use Rattle.record.specs.Record.{numbersAs}
+use Rattle.record.proofs.Had.{had-all}
 use Rattle.record.proofs.Tell.{tell, refuse, found-by}
 use Rattle.record.proofs.statistics.read.Statement.{statement}
 use Rattle.record.proofs.statistics.read.Tie as tie
 
 returns : tie.Need-returns
-unfolding texts
 returns c =
     let s = now (c .before .before .before .before .before .before .args .body) in
-    tell statistics s (found-by (c .before .before .enum-told .given .1) (c .before .before .before .before .judge .ensures))
-    (c .before .statistics-of .ensures) refl (c .no-texts .ensures .0) (c .no-texts .ensures .1)
+    let e = found-by (c .before .before .enum-told .given .1) (c .before .before .before .before .judge-statistics .ensures) in
+    let h = had-all statistics s (has-all statistics s e .long) in
+    tell statistics s e (c .before .statistics-of .ensures ∙ ap (numbersAs statistics) h) (ap (λ (l : List ℕ). texts (fields statistics) l 0) h)
+    (c .statistics-texts .ensures .0) (c .statistics-texts .ensures .1)
 
 returns-2 : tie.Need-returns-2
 returns-2 c =
-    c .refused .ensures ∙ refuse statistics (now (c .before .before .before .before .before .before .args .body)) (found-by (c .before .before .x .given .1) (c .before .before .before .before .judge .ensures))
+    c .refused .ensures ∙ refuse statistics (now (c .before .before .before .before .before .before .args .body)) (found-by (c .before .before .x .given .1) (c .before .before .before .before .judge-statistics .ensures))
 
 pub read-spec : {M : Type 1} → statement M
 read-spec =

@@ -7,7 +7,7 @@ use native.Mathlib.Omega.{arith}
 use lib.IntN.{pos}
 use lib.ListN.{length}
 use Rattle.layout.specs.Layout.{statistics, streams, size, values}
-use Rattle.layout.specs.Group.{place}
+use Rattle.layout.specs.Group.{groupOffset}
 use Rattle.layout.proofs.Walk.{place-flat}
 use Rattle.record.proofs.Gathered.{stream-texts}
 use Rattle.record.proofs.Grouped.{group-found, group-none, group-there}
@@ -20,7 +20,7 @@ unfolding size
 there c =
     let s = now (c .before .before .before .args .body) in
     let i = c .before .before .before .args .i in
-    let p : place streams s 14 i ≡ 14 + 15 * i = place-flat streams s refl 14 i in
+    let p : groupOffset streams s 14 i ≡ 14 + 15 * i = place-flat streams s refl 14 i in
     rw p at (group-there statistics streams s i refl (c .before .before .before .pre) (rw (← c .before .be4 .ensures) (c .if1 .taken)))
 
 gather-requires : tie.Need-gather-requires

@@ -5,7 +5,7 @@ use mathlib.Core.Path.{_≡_, ap, sym, _∙_}
 use mathlib.Core.List.{List}
 use native.Mathlib.Omega.{arith}
 use lib.ListN.{length, length-append}
-use Rattle.wire.specs.Bytes.{part, placed}
+use Rattle.wire.specs.Bytes.{part, putAt}
 use Rattle.wire.proofs.Be.{part-length}
 use Rattle.record.specs.Asked.{zeros}
 use Rattle.record.proofs.Gathered.{both-placed}
@@ -21,8 +21,8 @@ returns c =
     let l : length x ≡ g .m = part-length (g .a) (g .a + g .m) s (omega arith) ∙ omega arith in
     let k : length y ≡ g .n = part-length (g .b) (g .b + g .n) s (omega arith) ∙ omega arith in (
       c .before .copy2 .ensures
-          ∙ ap (λ (o : List ℕ). placed o (g .m) y) (c .before .before .before .before .before .copy .ensures)
-          ∙ ap (λ (i : ℕ). placed (placed (zeros 24) 0 x) i y) (sym l)
+          ∙ ap (λ (o : List ℕ). putAt o (g .m) y) (c .before .before .before .before .before .copy .ensures)
+          ∙ ap (λ (i : ℕ). putAt (putAt (zeros 24) 0 x) i y) (sym l)
           ∙ both-placed x y (omega arith),
       omega (arith, length-append x y),
     )

@@ -1,13 +1,12 @@
 use native.Mathlib.Omega.{arith}
-use mathlib.Core.List.{[]}
 use mathlib.Core.Path.{sym}
 use lib.ListN.{getD}
 use Rattle.gaps.specs.Gaps.{grow}
-use Rattle.tracker.specs.Places.{channel}
-use Rattle.tracker.specs.Arrived.{saidOf}
-use Rattle.tracker.specs.Inside.{made}
+use Rattle.tracker.specs.Places.{made, channelAt}
+use Rattle.tracker.specs.Arrived.{arrivalSaid}
+use Rattle.seats.specs.Arrays.{inArrays}
 use Rattle.tracker.proofs.Room.{room-grows}
-use Rattle.tracker.proofs.Put.{kept-within}
+use Rattle.tracker.proofs.Put.{kept-row}
 use Rattle.tracker.proofs.Judge.{stored-full, raised}
 use borrow.Author.Needs.{needs}
 use Rattle.tracker.proofs.lent.raise.Statement.{statement}
@@ -17,18 +16,16 @@ returns : tie.Need-returns
 returns c =
     let k = c .before .before .before .before .before .before in
     let s = k .args in
-    let t = made 0 [] (s .highest .now) (s .ended .now) (s .counts .now) (s .first .now) (s .last .now) in
-    let w = kept-within t (s .at) (k .pre) in
+    let w = kept-row (k .pre) in
     let g = room-grows (s .first .now) (s .last .now) (s .at) (getD (s .counts .now) (s .at) 0) (getD (s .highest .now) (s .at) 0) (k .pre .place) (w .room) (w .high) (c .before .room .result) (c .before .room .ensures) in
-    λ m ns. (let u = made m ns (s .highest .now) (s .ended .now) (s .counts .now) (s .first .now) (s .last .now) in
-    sym (stored-full u (s .at) (saidOf (s .verdict)) (s .top) (s .mark) (grow (channel u (s .at) .runs) (channel u (s .at) .highest) (s .m)) (g .over (c .if1 .taken) (s .m))))
+    λ m ns. (let u = made (inArrays m ns (s .highest) (s .ended) (s .counts) (s .first) (s .last)) in
+    sym (stored-full u (s .at) (arrivalSaid (s .verdict)) (s .top) (s .mark) (grow (channelAt u (s .at) .runs) (channelAt u (s .at) .highest) (s .m)) (g .over (c .if1 .taken) (s .m))))
 
 element-write-first : tie.Need-element-write-first
 element-write-first c =
     let k = c .before .before .before .before .before .before in
     let s = k .args in
-    let t = made 0 [] (s .highest .now) (s .ended .now) (s .counts .now) (s .first .now) (s .last .now) in
-    let w = kept-within t (s .at) (k .pre) in
+    let w = kept-row (k .pre) in
     let g = room-grows (s .first .now) (s .last .now) (s .at) (getD (s .counts .now) (s .at) 0) (getD (s .highest .now) (s .at) 0) (k .pre .place) (w .room) (w .high) (c .before .room .result) (c .before .room .ensures) in
     omega (arith, g .room (c .if1 .left) .within, k .pre .place)
 
@@ -51,11 +48,10 @@ returns-2 : tie.Need-returns-2
 returns-2 c =
     let k = c .before .before .before .before .before .before .before in
     let s = k .args in
-    let t = made 0 [] (s .highest .now) (s .ended .now) (s .counts .now) (s .first .now) (s .last .now) in
-    let w = kept-within t (s .at) (k .pre) in
+    let w = kept-row (k .pre) in
     let g = room-grows (s .first .now) (s .last .now) (s .at) (getD (s .counts .now) (s .at) 0) (getD (s .highest .now) (s .at) 0) (k .pre .place) (w .room) (w .high) (c .before .before .room .result) (c .before .before .room .ensures) in
-    λ m ns. (let u = made m ns (s .highest .now) (s .ended .now) (s .counts .now) (s .first .now) (s .last .now) in
-    rw (c .mark .ensures) (sym (raised u (s .at) w (saidOf (s .verdict)) (s .top) (s .mark) (s .m) (c .before .before .room .result) (g .room (c .before .if1 .left)))))
+    λ m ns. (let u = made (inArrays m ns (s .highest) (s .ended) (s .counts) (s .first) (s .last)) in
+    rw (c .mark .ensures) (sym (raised u (s .at) w (arrivalSaid (s .verdict)) (s .top) (s .mark) (s .m) (c .before .before .room .result) (g .room (c .before .if1 .left)))))
 
 pub raise-spec : {M : Type 1} → statement M
 raise-spec =

@@ -23,7 +23,7 @@ returns c =
     let e = c .before .before .before .before .before .before .before .before .before .resend .ensures ∙ ap (λ (r : Run). resendOf (s .channel) r) (a .ensures) in
     let m = c .before .before .before .before .before .write-resend .ensures in
     let n = c .before .n .given in
-    whole (s .channel) (s .run) (now (s .out)) (omega (arith, w .low, w .high)) (omega (arith, w .high)) e (n .0 .0) _ (sym (ap writer.paper (n .1)) ∙ m .0) (m .1)
+    whole (s .channel) (s .run) (now (s .out)) (omega (arith, w .low, w .high)) (omega (arith, w .high)) e (n .0 .0) _ (sym (ap writer.meansWritten (n .1)) ∙ m .0) (m .1)
 
 returns-2 : tie.Need-returns-2
 returns-2 c =
@@ -33,7 +33,7 @@ returns-2 c =
     let e = c .before .before .before .before .before .before .before .before .resend .ensures ∙ ap (λ (r : Run). resendOf (s .channel) r) (a .ensures) in
     let m = c .before .before .before .before .write-resend .ensures in
     let n = c .enum-told .given in
-    short (s .channel) (s .run) (now (s .out)) (omega (arith, w .low, w .high)) (omega (arith, w .high)) e _ _ _ (sym (ap writer.paper (n .1)) ∙ m .0) (m .1)
+    short (s .channel) (s .run) (now (s .out)) (omega (arith, w .low, w .high)) (omega (arith, w .high)) e _ _ _ (sym (ap writer.meansWritten (n .1)) ∙ m .0) (m .1)
 
 pub ask-spec : {M : Type 1} → statement M
 ask-spec =

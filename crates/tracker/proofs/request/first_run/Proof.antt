@@ -6,7 +6,6 @@ use lib.ListN.{getD}
 use Rattle.wire.specs.Answer.{accepted}
 use Rattle.gaps.specs.Limits.{runLimit}
 use Rattle.tracker.specs.FirstRun.{Lost}
-use Rattle.tracker.specs.Inside.{made}
 use Rattle.tracker.proofs.FirstRun.{seat-10, seat-7, seat-at, no-run, run-first}
 use borrow.Author.Needs.{needs}
 use Rattle.tracker.proofs.request.first_run.Statement.{statement}
@@ -15,23 +14,17 @@ use Rattle.tracker.proofs.request.first_run.Tie as tie
 returns : tie.Need-returns
 returns c =
     let k = c .before .before in
-    let s = k .before .args in
-    let t = made (s .count) (s .numbers .now) (s .highest .now) (s .ended .now) (s .counts .now) (s .first .now) (s .last .now) in
-    sym (seat-10 t (s .channel) (k .seat-of .result) (k .seat-of .ensures) (not-true _ (c .if1 .taken)))
+    sym (seat-10 _ (k .before .args .channel) (k .seat-of .result) (k .seat-of .ensures) (not-true _ (c .if1 .taken)))
 
 returns-2 : tie.Need-returns-2
 returns-2 c =
     let k = c .before .before .before in
-    let s = k .before .args in
-    let t = made (s .count) (s .numbers .now) (s .highest .now) (s .ended .now) (s .counts .now) (s .first .now) (s .last .now) in
-    sym (seat-7 t (s .channel) (k .seat-of .result) (k .seat-of .ensures) (not-false _ (c .before .if1 .left)) (omega arith))
+    sym (seat-7 _ (k .before .args .channel) (k .seat-of .result) (k .seat-of .ensures) (not-false _ (c .before .if1 .left)) (omega arith))
 
 element-copy-out-if3 : tie.Need-element-copy-out-if3
 element-copy-out-if3 c =
     let k = c .before .before .before in
-    let s = k .before .args in
-    let t = made (s .count) (s .numbers .now) (s .highest .now) (s .ended .now) (s .counts .now) (s .first .now) (s .last .now) in
-    let w = seat-at t (s .channel) (k .seat-of .result) (k .seat-of .ensures) (not-false _ (c .before .if1 .left)) (omega arith) in
+    let w = seat-at _ (k .before .args .channel) (k .seat-of .result) (k .seat-of .ensures) (not-false _ (c .before .if1 .left)) (omega arith) in
     omega (arith, w .0)
 
 mul-if3 : tie.Need-mul-if3
@@ -41,17 +34,14 @@ returns-3 : tie.Need-returns-3
 returns-3 c =
     let k = c .before .before .before .before .before in
     let s = k .before .args in
-    let t = made (s .count) (s .numbers .now) (s .highest .now) (s .ended .now) (s .counts .now) (s .first .now) (s .last .now) in
     let i = k .seat-of .result .at in
-    let w = seat-at t (s .channel) (k .seat-of .result) (k .seat-of .ensures) (not-false _ (c .before .before .before .if1 .left)) (omega arith) in
-    sym (w .1 ∙ ap (λ (x : Lost). accepted x) (no-run (t .first) (t .last) (i * runLimit) (getD (t .counts) i 0) (c .if3 .taken)))
+    let w = seat-at _ (k .before .args .channel) (k .seat-of .result) (k .seat-of .ensures) (not-false _ (c .before .before .before .if1 .left)) (omega arith) in
+    sym (w .1 ∙ ap (λ (x : Lost). accepted x) (no-run (s .first .now) (s .last .now) (i * runLimit) (getD (s .counts .now) i 0) (c .if3 .taken)))
 
 element-copy-out-t19 : tie.Need-element-copy-out-t19
 element-copy-out-t19 c =
     let k = c .before .before .before .before .before in
-    let s = k .before .args in
-    let t = made (s .count) (s .numbers .now) (s .highest .now) (s .ended .now) (s .counts .now) (s .first .now) (s .last .now) in
-    let w = seat-at t (s .channel) (k .seat-of .result) (k .seat-of .ensures) (not-false _ (c .before .before .before .if1 .left)) (omega arith) in
+    let w = seat-at _ (k .before .args .channel) (k .seat-of .result) (k .seat-of .ensures) (not-false _ (c .before .before .before .if1 .left)) (omega arith) in
     omega (arith, w .0)
 
 mul-b : tie.Need-mul-b
@@ -70,10 +60,9 @@ returns-4 : tie.Need-returns-4
 returns-4 c =
     let k = c .before .before .before .before .before .before .before in
     let s = k .before .args in
-    let t = made (s .count) (s .numbers .now) (s .highest .now) (s .ended .now) (s .counts .now) (s .first .now) (s .last .now) in
     let i = k .seat-of .result .at in
-    let w = seat-at t (s .channel) (k .seat-of .result) (k .seat-of .ensures) (not-false _ (c .before .before .before .before .before .if1 .left)) (omega arith) in
-    sym (w .1 ∙ ap (λ (x : Lost). accepted x) (run-first (t .first) (t .last) (i * runLimit) (getD (t .counts) i 0) (c .before .before .if3 .left)))
+    let w = seat-at _ (k .before .args .channel) (k .seat-of .result) (k .seat-of .ensures) (not-false _ (c .before .before .before .before .before .if1 .left)) (omega arith) in
+    sym (w .1 ∙ ap (λ (x : Lost). accepted x) (run-first (s .first .now) (s .last .now) (i * runLimit) (getD (s .counts .now) i 0) (c .before .before .if3 .left)))
 
 pub first-run-spec : {M : Type 1} → statement M
 first-run-spec =

@@ -1,7 +1,7 @@
 use denote.Ref.{now}
 use mathlib.Core.Path.{ap, sym, _∙_}
 use Rattle.wire.specs.Answer.{andThen}
-use Rattle.tracker.specs.Inside.{made, lostOf}
+use Rattle.tracker.specs.Inside.{lostOf}
 use Rattle.tracker.proofs.FirstRun.{first-lies}
 use Rattle.tracker.proofs.Fitting.{answers-by, leaves-by}
 use borrow.Author.Needs.{needs}
@@ -13,9 +13,8 @@ ask-requires c κs =
     let r = c .before .before .wanted .given in
     let f = c .before .before .before .before in
     let s = f .before .before .args in
-    let t = made (s .count) (s .numbers .now) (s .highest .now) (s .ended .now) (s .counts .now) (s .first .now) (s .last .now) in
     let e = sym (f .first-run .ensures) ∙ ap lostOf (c .before .before .wanted .given .1) in
-    let w = first-lies t (s .channel) (r .0 .0) e in
+    let w = first-lies _ _ _ e in
     (w .order, w .high)
 
 returns : tie.Need-returns
@@ -23,10 +22,9 @@ unfolding andThen
 returns c =
     let f = c .before .before .before .before .before .before .before in
     let s = f .before .before .args in
-    let t = made (s .count) (s .numbers .now) (s .highest .now) (s .ended .now) (s .counts .now) (s .first .now) (s .last .now) in
     let e = sym (f .first-run .ensures) ∙ ap lostOf (c .before .before .before .before .before .wanted .given .1) in
-    let a = answers-by t (s .channel) (now (s .out)) e in
-    let l = leaves-by t (s .channel) (now (s .out)) e in
+    let a = answers-by _ _ (now (s .out)) e in
+    let l = leaves-by _ _ (now (s .out)) e in
     (c .before .before .ask .ensures .0 ∙ sym a, c .before .before .ask .ensures .1 ∙ sym l)
 
 returns-2 : tie.Need-returns-2
@@ -34,10 +32,9 @@ unfolding andThen
 returns-2 c =
     let f = c .before .before in
     let s = f .before .before .args in
-    let t = made (s .count) (s .numbers .now) (s .highest .now) (s .ended .now) (s .counts .now) (s .first .now) (s .last .now) in
     let e = sym (f .first-run .ensures) ∙ ap lostOf (c .enum-told .given .1) in
-    let a = answers-by t (s .channel) (now (s .out)) e in
-    let l = leaves-by t (s .channel) (now (s .out)) e in
+    let a = answers-by _ _ (now (s .out)) e in
+    let l = leaves-by _ _ (now (s .out)) e in
     (sym a, sym l)
 
 returns-3 : tie.Need-returns-3
@@ -45,10 +42,9 @@ unfolding andThen
 returns-3 c =
     let f = c .before .before in
     let s = f .before .before .args in
-    let t = made (s .count) (s .numbers .now) (s .highest .now) (s .ended .now) (s .counts .now) (s .first .now) (s .last .now) in
     let e = sym (f .first-run .ensures) ∙ ap lostOf (c .enum-told2 .given .1) in
-    let a = answers-by t (s .channel) (now (s .out)) e in
-    let l = leaves-by t (s .channel) (now (s .out)) e in
+    let a = answers-by _ _ (now (s .out)) e in
+    let l = leaves-by _ _ (now (s .out)) e in
     (sym a, sym l)
 
 returns-4 : tie.Need-returns-4
@@ -56,10 +52,9 @@ unfolding andThen
 returns-4 c =
     let f = c .before .before in
     let s = f .before .before .args in
-    let t = made (s .count) (s .numbers .now) (s .highest .now) (s .ended .now) (s .counts .now) (s .first .now) (s .last .now) in
     let e = sym (f .first-run .ensures) ∙ ap lostOf (c .enum-told3 .given .1) in
-    let a = answers-by t (s .channel) (now (s .out)) e in
-    let l = leaves-by t (s .channel) (now (s .out)) e in
+    let a = answers-by _ _ (now (s .out)) e in
+    let l = leaves-by _ _ (now (s .out)) e in
     (sym a, sym l)
 
 pub request-in-spec : {M : Type 1} → statement M

@@ -1,17 +1,17 @@
 use mathlib.Core.Path.{sym}
 use Rattle.layout.specs.Layout.{snapshot, index, size}
-use Rattle.entries.specs.Entry.{startOf}
+use Rattle.entries.specs.Entry.{start}
 use Rattle.record.proofs.Choice.{named-as}
 use Rattle.entries.proofs.Entries.{no-entries, no-start}
 use Rattle.entries.proofs.cursor.Cursor.start.Statement.{statement}
 use Rattle.entries.proofs.cursor.Cursor.start.Tie as tie
 
 returns : tie.Need-returns
-unfolding startOf size
+unfolding start size
 returns c = rw (named-as snapshot (c .before .match .keys1), c .be4 .ensures)
 
 returns-2 : tie.Need-returns-2
-unfolding startOf size
+unfolding start size
 returns-2 c = rw (named-as index (c .before .match .keys2), c .be42 .ensures)
 
 returns-3 : tie.Need-returns-3

@@ -1,17 +1,17 @@
 use mathlib.Core.Path.{sym}
 use Rattle.layout.specs.Layout.{snapshot, index}
-use Rattle.entries.specs.Entry.{stepOf}
+use Rattle.entries.specs.Entry.{step}
 use Rattle.record.proofs.Choice.{named-as}
 use Rattle.entries.proofs.Entries.{no-entries, no-step}
 use Rattle.entries.proofs.cursor.Cursor.step.Statement.{statement}
 use Rattle.entries.proofs.cursor.Cursor.step.Tie as tie
 
 returns : tie.Need-returns
-unfolding stepOf
+unfolding step
 returns c = rw (named-as snapshot (c .before .match .keys1)) (c .step-in .ensures)
 
 returns-2 : tie.Need-returns-2
-unfolding stepOf
+unfolding step
 returns-2 c = rw (named-as index (c .before .match .keys2)) (c .step-in2 .ensures)
 
 returns-3 : tie.Need-returns-3
