@@ -5,7 +5,6 @@ use record::Order;
 use record::Record;
 use record::SecurityStatus;
 use record::Statistics;
-use writer::Refusal;
 use writer::Written;
 
 const MARK: u8 = 0xaa;
@@ -75,12 +74,7 @@ fn case_at(i: u64) -> Case {
 fn said(answer: Written) -> Said {
     match answer {
         Written::Whole(n) => said::written(n),
-        Written::Refused(why) => match why {
-            Refusal::NotItsLayout => said::refused(4),
-            Refusal::OutOfRange => said::refused(5),
-            Refusal::TooLong => said::refused(2),
-            Refusal::OutputShort => said::refused(6),
-        },
+        Written::Refused(why) => said::refused(why.number() as u64),
     }
 }
 

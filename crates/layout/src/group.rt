@@ -7,7 +7,7 @@ ghost use Rattle.layout.specs.Kind as kind;
 ghost use Rattle.layout.specs.Layout.{size, ranges};
 ghost use Rattle.layout.specs.Group as of;
 ghost use Rattle.layout.specs.Group.{fit, quantities, groupRanges, judgeGroups, judgeAll, offsetFrom};
-ghost use Rattle.layout.specs.Paper.{meansGroups, meansVerdict};
+ghost use Rattle.layout.specs.Paper.{meansGroups, bodyRefusal, meansVerdict};
 use crate::entry;
 use crate::index_entry;
 use crate::range::entry_price_in_range;
@@ -30,6 +30,18 @@ pub enum Groups {
 pub enum Refusal {
     NotItsLayout,
     OutOfRange,
+}
+
+impl Refusal {
+    // Its number.
+    pub fn number(self) -> u32
+        ensures { λ r. ⌜ r ≡ bodyRefusal self ⌝ }
+    {
+        match self {
+            Refusal::NotItsLayout => 4,
+            Refusal::OutOfRange => 5,
+        }
+    }
 }
 
 pub enum Verdict {

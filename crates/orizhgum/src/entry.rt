@@ -7,7 +7,6 @@ ghost use Rattle.orizhgum.specs.Entries.{bare, priceOf, priceNumber, pri
 use crate::answers::NO_PRICE;
 use crate::answers::NO_SUCH_ENTRY;
 use crate::answers::PLAIN;
-use crate::answers::number;
 use entries::AskedEntry;
 use entries::AskedQuantity;
 use entries::Cursor;
@@ -184,7 +183,7 @@ pub extern "C" fn orizhgum_entry(kind: u32, body: &[u8], i: u32) -> EntryAnswer
             entry: no_entry(),
         },
         AskedEntry::Refused(x) => EntryAnswer {
-            answer: number(x),
+            answer: x.number(),
             entry: no_entry(),
         },
     }
@@ -202,7 +201,7 @@ pub extern "C" fn orizhgum_entry_price(kind: u32, body: &[u8], i: u32, price: &m
             give(says, price)
         }
         AskedEntry::NoSuchEntry => NO_SUCH_ENTRY,
-        AskedEntry::Refused(x) => number(x),
+        AskedEntry::Refused(x) => x.number(),
     }
 }
 
@@ -221,7 +220,7 @@ pub extern "C" fn orizhgum_quantity(kind: u32, body: &[u8], i: u32, j: u32) -> Q
             quantity: 0,
         },
         AskedQuantity::Refused(x) => QuantityAnswer {
-            answer: number(x),
+            answer: x.number(),
             quantity: 0,
         },
     }
@@ -252,7 +251,7 @@ pub extern "C" fn orizhgum_step(at: Cursor, kind: u32, body: &[u8]) -> StepAnswe
             next: at,
         },
         Step::Refused(x) => StepAnswer {
-            answer: number(x),
+            answer: x.number(),
             entry: no_entry(),
             next: at,
         },
@@ -271,6 +270,6 @@ pub extern "C" fn orizhgum_step_price(at: Cursor, kind: u32, body: &[u8], price:
             give(says, price)
         }
         Step::NoSuchEntry => NO_SUCH_ENTRY,
-        Step::Refused(x) => number(x),
+        Step::Refused(x) => x.number(),
     }
 }

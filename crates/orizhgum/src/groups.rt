@@ -4,7 +4,6 @@ ghost use Rattle.record.specs.Record.{groupOf};
 ghost use Rattle.orizhgum.specs.Groups.{groupAnswer};
 use crate::answers::NO_SUCH_ENTRY;
 use crate::answers::PLAIN;
-use crate::answers::number;
 use layout::TEXT_ROOM;
 use record::GroupAnswer;
 
@@ -50,7 +49,7 @@ pub extern "C" fn orizhgum_group(kind: u32, body: &[u8], i: u32) -> Grouped
             texts,
         },
         GroupAnswer::Refused(x) => Grouped {
-            answer: number(x),
+            answer: x.number(),
             stock_number: 0,
             switch_type: 0,
             yes_no: 0,

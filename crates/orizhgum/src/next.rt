@@ -14,7 +14,6 @@ ghost use Rattle.entries.specs.Paper.{meansCursor};
 ghost use Rattle.orizhgum.specs.Entries.{bare, saying, entryFromC, priceOf, priceLeft, pricedLeft, stepAnswer, noEntry};
 use crate::answers::NO_SUCH_ENTRY;
 use crate::answers::PLAIN;
-use crate::answers::number;
 use crate::entry::BOTH;
 use crate::entry::Entry;
 use crate::entry::LEVEL;
@@ -176,7 +175,7 @@ fn in_snapshot(place: usize, left: u32, body: &[u8], price: &mut i64) -> StepAns
     }
     match layout::judge(Groups::SnapshotEntries, body, place, 1) {
         Verdict::Accepted => over_snapshot(body, place, left - 1, price),
-        Verdict::Refused(x) => none(number(x), place, left),
+        Verdict::Refused(x) => none(x.number(), place, left),
     }
 }
 
@@ -189,7 +188,7 @@ fn in_index(place: usize, left: u32, body: &[u8], price: &mut i64) -> StepAnswer
     }
     match layout::judge(Groups::IndexEntries, body, place, 1) {
         Verdict::Accepted => over_index(body, place, left - 1, price),
-        Verdict::Refused(x) => none(number(x), place, left),
+        Verdict::Refused(x) => none(x.number(), place, left),
     }
 }
 

@@ -6,7 +6,6 @@ ghost use Rattle.record.specs.declared.Record.the-variants as is;
 ghost use Rattle.orizhgum.specs.Records.{judgedNumber, recordAnswer, answerAs};
 use crate::answers::PLAIN;
 use crate::answers::UNKNOWN;
-use crate::answers::number;
 use layout::TEXT_ROOM;
 use layout::Verdict;
 use record::ChannelHeartbeat;
@@ -29,7 +28,7 @@ pub extern "C" fn orizhgum_judge(kind: u32, body: &[u8]) -> u32
     }
     match record::judge(kind, body) {
         Verdict::Accepted => PLAIN,
-        Verdict::Refused(x) => number(x),
+        Verdict::Refused(x) => x.number(),
     }
 }
 
@@ -55,7 +54,7 @@ pub extern "C" fn orizhgum_order(body: &[u8]) -> OrderAnswer
             }
         }
         Verdict::Refused(x) => OrderAnswer {
-            answer: number(x),
+            answer: x.number(),
             numbers: record::order_of(&body[0..0]),
             texts: [0u8; TEXT_ROOM],
         },
@@ -84,7 +83,7 @@ pub extern "C" fn orizhgum_trade(body: &[u8]) -> TradeAnswer
             }
         }
         Verdict::Refused(x) => TradeAnswer {
-            answer: number(x),
+            answer: x.number(),
             numbers: record::trade_of(&body[0..0]),
             texts: [0u8; TEXT_ROOM],
         },
@@ -113,7 +112,7 @@ pub extern "C" fn orizhgum_channel_heartbeat(body: &[u8]) -> ChannelHeartbeatAns
             }
         }
         Verdict::Refused(x) => ChannelHeartbeatAnswer {
-            answer: number(x),
+            answer: x.number(),
             numbers: record::channel_heartbeat_of(&body[0..0]),
             texts: [0u8; TEXT_ROOM],
         },
@@ -142,7 +141,7 @@ pub extern "C" fn orizhgum_resend(body: &[u8]) -> ResendAnswer
             }
         }
         Verdict::Refused(x) => ResendAnswer {
-            answer: number(x),
+            answer: x.number(),
             numbers: record::resend_of(&body[0..0]),
             texts: [0u8; TEXT_ROOM],
         },
@@ -171,7 +170,7 @@ pub extern "C" fn orizhgum_snapshot(body: &[u8]) -> SnapshotAnswer
             }
         }
         Verdict::Refused(x) => SnapshotAnswer {
-            answer: number(x),
+            answer: x.number(),
             numbers: record::snapshot_of(&body[0..0]),
             texts: [0u8; TEXT_ROOM],
         },
@@ -200,7 +199,7 @@ pub extern "C" fn orizhgum_index(body: &[u8]) -> IndexAnswer
             }
         }
         Verdict::Refused(x) => IndexAnswer {
-            answer: number(x),
+            answer: x.number(),
             numbers: record::index_of(&body[0..0]),
             texts: [0u8; TEXT_ROOM],
         },
@@ -229,7 +228,7 @@ pub extern "C" fn orizhgum_volume_index(body: &[u8]) -> VolumeIndexAnswer
             }
         }
         Verdict::Refused(x) => VolumeIndexAnswer {
-            answer: number(x),
+            answer: x.number(),
             numbers: record::volume_index_of(&body[0..0]),
             texts: [0u8; TEXT_ROOM],
         },
@@ -258,7 +257,7 @@ pub extern "C" fn orizhgum_statistics(body: &[u8]) -> StatisticsAnswer
             }
         }
         Verdict::Refused(x) => StatisticsAnswer {
-            answer: number(x),
+            answer: x.number(),
             numbers: record::statistics_of(&body[0..0]),
             texts: [0u8; TEXT_ROOM],
         },
@@ -287,7 +286,7 @@ pub extern "C" fn orizhgum_security_status(body: &[u8]) -> SecurityStatusAnswer
             }
         }
         Verdict::Refused(x) => SecurityStatusAnswer {
-            answer: number(x),
+            answer: x.number(),
             numbers: record::security_status_of(&body[0..0]),
             texts: [0u8; TEXT_ROOM],
         },

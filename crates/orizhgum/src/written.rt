@@ -15,7 +15,6 @@ use record::Snapshot;
 use record::Statistics;
 use record::Trade;
 use record::VolumeIndex;
-use writer::Refusal;
 use writer::Written;
 
 // How many bytes were written; 0 where it is refused, and the output is as it stood.
@@ -23,18 +22,6 @@ use writer::Written;
 pub struct WriteAnswer {
     pub answer: u32,
     pub written: usize,
-}
-
-// The number of a writer's refusal.
-fn refusal_number(x: Refusal) -> u32
-    ensures { λ r. ⌜ r ≡ writer_paper.writerRefusal x ⌝ }
-{
-    match x {
-        Refusal::NotItsLayout => 4,
-        Refusal::OutOfRange => 5,
-        Refusal::TooLong => 2,
-        Refusal::OutputShort => 6,
-    }
 }
 
 fn answer_of(written: Written) -> WriteAnswer
@@ -46,7 +33,7 @@ fn answer_of(written: Written) -> WriteAnswer
             written: n,
         },
         Written::Refused(x) => WriteAnswer {
-            answer: refusal_number(x),
+            answer: x.number(),
             written: 0,
         },
     }

@@ -7,7 +7,6 @@ use record::Answer;
 use record::Common;
 use record::Order;
 use record::Record;
-use record::Refusal;
 use record::Resend;
 use record::SecurityStatus;
 use record::Trade;
@@ -151,14 +150,6 @@ fn refused(kind: u32) -> u64 {
     }
 }
 
-// A refusal's number.
-fn number_of(why: Refusal) -> i64 {
-    match why {
-        Refusal::NotItsLayout => 4,
-        Refusal::OutOfRange => 5,
-    }
-}
-
 // How many groups or entries stand below a record.
 fn count(r: Record) -> u32 {
     match r {
@@ -195,7 +186,7 @@ pub fn of_frame(offset: i64, kind: u32, body: &[u8]) -> Head {
             count: count(r),
         },
         Answer::Refused(why) => Head {
-            line: full(texts, refused(kind), few(offset, number_of(why), 0, 0)),
+            line: full(texts, refused(kind), few(offset, why.number() as i64, 0, 0)),
             count: 0,
         },
     }

@@ -5,7 +5,7 @@ ghost use Rattle.wire.specs.Answer.{andThen};
 ghost use Rattle.frame.specs.Framing.{bodyLimit};
 ghost use Rattle.layout.specs.Paper as layout_paper;
 ghost use Rattle.record.specs.Paper.{meansRecord};
-ghost use Rattle.writer.specs.Paper.{meansWritten};
+ghost use Rattle.writer.specs.Paper.{writerRefusal, meansWritten};
 ghost use Rattle.writer.specs.Write.{roomForFrame, write, writeLeaves};
 
 mod channel_heartbeat;
@@ -40,6 +40,20 @@ pub enum Refusal {
     OutOfRange,
     TooLong,
     OutputShort,
+}
+
+impl Refusal {
+    // Its number.
+    pub fn number(self) -> u32
+        ensures { λ r. ⌜ r ≡ writerRefusal self ⌝ }
+    {
+        match self {
+            Refusal::NotItsLayout => 4,
+            Refusal::OutOfRange => 5,
+            Refusal::TooLong => 2,
+            Refusal::OutputShort => 6,
+        }
+    }
 }
 
 // How many bytes were written, or the refusal.

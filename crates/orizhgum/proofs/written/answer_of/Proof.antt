@@ -13,7 +13,7 @@ returns c = answers meansWritten writeAnswer (c .before .written .given .1) refl
 returns-2 : tie.Need-returns-2
 unfolding writeAnswer
 returns-2 c =
-    rw (c .refusal-number .ensures) (answers meansWritten writeAnswer (c .before .before .written2 .given .1) refl)
+    rw (c .number .ensures) (answers meansWritten writeAnswer (c .before .before .written2 .given .1) refl)
 
 pub answer-of-spec : {M : Type 1} → statement M
 answer-of-spec =
