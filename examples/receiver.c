@@ -25,9 +25,6 @@
 #include <stdio.h>
 #include <string.h>
 
-/* stands in every lent price: a call that gives none leaves it */
-#define NO_NUMBER INT64_MIN
-
 static struct orizhgum_tracker tracker;
 
 /* a number with so many decimals */
@@ -49,24 +46,18 @@ static void refused(uint64_t offset, uint32_t answer)
     printf("%" PRIu64 " refused %" PRIu32 "\n", offset, answer);
 }
 
-/* 0 where the price is there or absent as it should be */
-static int print_level(struct orizhgum_cursor at, const struct orizhgum_entry *entry, const uint8_t *body, size_t length)
+/* a level without a price has none: the lent number was not written */
+static void print_level(const struct orizhgum_entry *entry, int64_t price)
 {
-    int64_t price = NO_NUMBER;
-    uint32_t answer = orizhgum_step_price(at, ORIZHGUM_SNAPSHOT, body, length, &price);
-
     printf("  %s %u: ", entry->characters >> 8 == '0' ? "bid" : "offer", (unsigned)entry->level);
-    if (answer == ORIZHGUM_OK) {
+    if (entry->says == ORIZHGUM_SAYS_LEVEL) {
         print_decimal(price, ORIZHGUM_ENTRY_PRICE_DECIMALS);
-    } else if (answer == ORIZHGUM_NO_PRICE && price == NO_NUMBER) {
-        printf("-");
     } else {
-        return 1;
+        printf("-");
     }
     printf(" ");
     print_decimal(entry->size, ORIZHGUM_QUANTITY_DECIMALS);
     printf("\n");
-    return 0;
 }
 
 /* a text is as wide as its field, and not ended by a zero */
@@ -85,7 +76,8 @@ static int print_snapshot(uint64_t offset, const uint8_t *body, size_t length)
         snapshot.numbers.common.time);
     at = orizhgum_cursor(ORIZHGUM_SNAPSHOT, body, length);
     for (;;) {
-        struct orizhgum_step_answer step = orizhgum_step(at, ORIZHGUM_SNAPSHOT, body, length);
+        int64_t price = 0;
+        struct orizhgum_step_answer step = orizhgum_next(at, ORIZHGUM_SNAPSHOT, body, length, &price);
         if (step.answer == ORIZHGUM_NO_SUCH_ENTRY) {
             return 0;
         }
@@ -93,9 +85,7 @@ static int print_snapshot(uint64_t offset, const uint8_t *body, size_t length)
             return 1; /* never, for a body that was accepted */
         }
         if (step.entry.says == ORIZHGUM_SAYS_LEVEL || step.entry.says == ORIZHGUM_SAYS_LEVEL_WITHOUT_PRICE) {
-            if (print_level(at, &step.entry, body, length)) {
-                return 1;
-            }
+            print_level(&step.entry, price);
         }
         at = step.next;
     }

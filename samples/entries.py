@@ -171,7 +171,7 @@ def entries():
 
 
 def auction():
-    """Document 01's auction case."""
+    """The rules' auction case."""
     return File("auction", [good("snapshot", [
         said("level", entry("0", 123400, 50000, 1)),
         said("level without a price", entry("0", 0, 70000, 2))])])

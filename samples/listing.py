@@ -112,7 +112,7 @@ def wrong_checksum(place):
 
 
 def two():
-    """Document 01's two accepted frames."""
+    """The rules' two accepted frames."""
     file = File("two", [good("heartbeat"), good("channel heartbeat")])
     assert file.cases[0].data == HEARTBEAT
     assert file.cases[1].data == CHANNEL_HEARTBEAT

@@ -1,6 +1,6 @@
 """Writes the samples and their expected texts: make.py DIR.
 
-Every value is built from document 01's fields; nothing is read back from a
+Every value is built from the rules' fields; nothing is read back from a
 program that these samples check.
 """
 

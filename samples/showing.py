@@ -23,7 +23,7 @@ def heartbeats():
         bad(4, name, end=2, short=1),
         bad(4, name, last_number=-1, short=1),
         bad(5, name, last_number=-1, end=2),
-        # Document 01's cases: end field 2, then eleven zeros.
+        # The rules' cases: end field 2, then eleven zeros.
         stated("0005F3CF 0000000C 07DB" + "00" * 7 + "0A0002 000000C1",
                bad(5, name, end=2)),
         stated("0005F3CF 0000000B" + "00" * 11 + "000000D2",
@@ -34,7 +34,7 @@ def heartbeats():
 
 
 def stated(hexadecimal, case):
-    """A case whose bytes document 01 gives."""
+    """A case whose bytes the rules give."""
     assert case.data == bytes.fromhex(hexadecimal)
     return case
 

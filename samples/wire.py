@@ -1,4 +1,4 @@
-"""Frames and fields in wire layout, as document 01 gives them."""
+"""Frames and fields in wire layout, as the rules give them."""
 
 # Widths: every field's width in bytes, and how it is held.
 # "signed" and "unsigned" are big-endian numbers; "characters" are filled

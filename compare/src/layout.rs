@@ -228,7 +228,7 @@ const fn grouped(
     }
 }
 
-/// The listed types, in the order of document 01's table.
+/// The listed types, in the order of the rules' table.
 pub static LISTED: [Layout; 10] = [
     plain(HEARTBEAT, "heartbeat", &[]),
     plain(

@@ -1,4 +1,4 @@
-//! A second opinion on document 01: an independent second program, inputs
+//! A second opinion on the rules: an independent second program, inputs
 //! for two receivers, and their comparison.
 
 pub mod compare;

@@ -1,5 +1,5 @@
-//! The calls of a receiver in document 01's terms, one method for each, with
-//! plain answers. Refusals are document 01's numbers.
+//! The calls of a receiver in the rules' terms, one method for each, with
+//! plain answers. Refusals are the rules' numbers.
 
 use std::fmt;
 
@@ -28,7 +28,7 @@ pub enum FrameAnswer {
 }
 
 /// A record: the type, its fixed fields as numbers and its texts, each in
-/// the order of document 01's table. A group count is a fixed field; so are
+/// the order of the rules' table. A group count is a fixed field; so are
 /// side, order type and execution type. Texts stand one behind the other.
 /// Unused places are zero.
 #[derive(Clone, Copy, PartialEq, Eq, Debug)]

@@ -1,4 +1,4 @@
-//! The second program by itself, with document 01's cases; the samples; the
+//! The second program by itself, with the rules' cases; the samples; the
 //! comparison of the product, and of broken receivers, with the second
 //! program; the C header.
 
@@ -24,7 +24,7 @@ mod writing;
 use compare::second::rules::Rules;
 use compare::second::Second;
 
-/// The second program under document 01's rules.
+/// The second program under the rules.
 fn second() -> Second {
     Second {
         rules: Rules::base(),

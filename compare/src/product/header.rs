@@ -460,7 +460,7 @@ macro_rules! numbered {
     };
 }
 
-/// C's assertions about every number that the header names: document 01's
+/// C's assertions about every number that the header names: the rules'
 /// refusals by their own, and all others as they are here.
 pub fn numbers() -> String {
     let refusals = [

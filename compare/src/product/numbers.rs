@@ -1,4 +1,4 @@
-//! The numbers of each type's struct, in the order of document 01's table.
+//! The numbers of each type's struct, in the order of the rules' table.
 
 use super::header::*;
 use crate::receiver::NUMBERS;

@@ -1,4 +1,4 @@
-//! Widths, and document 01's table of types, as the second program has them.
+//! Widths, and the rules' table of types, as the second program has them.
 
 use crate::layout::Meaning;
 
@@ -95,7 +95,7 @@ const fn of(kind: u32, fields: &'static [Meaning], group: &'static [Meaning]) ->
     }
 }
 
-/// Document 01's table.
+/// The rules' table.
 static LISTED: [Layout; 10] = [
     of(3, &[], &[]),
     of(390095, &[CHANNEL, Meaning::Reference, Meaning::YesNo], &[]),

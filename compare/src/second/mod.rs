@@ -1,6 +1,6 @@
-//! The second program: document 01 in plain Rust. It was written from
-//! document 01 alone, without sight of the product's sources. Where document
-//! 01 is silent it does as docs/DECISIONS.md and the C header say.
+//! The second program: the rules in plain Rust. It was written from
+//! the rules alone, without sight of the product's sources. Where the
+//! rules' paper is silent it does as docs/DECISIONS.md and the C header say.
 
 #![forbid(unsafe_code)]
 

@@ -1,4 +1,4 @@
-//! All limits, ranges and marks of document 01, in one struct: a change
+//! All limits, ranges and marks of the rules, in one struct: a change
 //! request is a line here.
 
 use crate::layout::Meaning;
@@ -67,7 +67,7 @@ pub enum Allowed {
 }
 
 impl Rules {
-    /// Document 01's rules.
+    /// The rules as they stand.
     pub const fn base() -> Rules {
         Rules {
             body_limit: 16_384,

@@ -1,4 +1,4 @@
-//! Document 01's cases of the tracker.
+//! The rules' cases of the tracker.
 
 use super::second;
 use compare::receiver::{Receiver, Tracker, Verdict};

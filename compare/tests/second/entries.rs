@@ -1,4 +1,4 @@
-//! Document 01's cases of entries, and the stepping cursor.
+//! The rules' cases of entries, and the stepping cursor.
 
 use super::{hex, second};
 use compare::receiver::{Cursor, Entry, Found, PriceAnswer, ReadAnswer, Receiver, Says};

@@ -1,4 +1,4 @@
-//! Document 01's cases of frames and records.
+//! The rules' cases of frames and records.
 
 use super::{hex, second};
 use compare::receiver::{Found, FrameAnswer, Group, ReadAnswer, Receiver, Record};
