@@ -1,4 +1,4 @@
--- Tests in document 01's order, and the rules that they stand for.
+-- Tests in the order of judging, and the rules that they stand for.
 -- Assumes nothing.
 use Prim.Native.Nat.{ℕ, _+_, _≤_, _<_}
 use mathlib.Core.Path.{_≡_, refl, sym, subst, _∙_}

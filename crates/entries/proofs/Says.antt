@@ -1,4 +1,4 @@
--- What an entry says, one law for each of document 01's cases.
+-- What an entry says, one law for each of its cases.
 -- Assumes nothing.
 use Prim.Native.Nat.{ℕ}
 use mathlib.Core.Path.{_≡_, refl, ap, sym, _∙_}

@@ -1,4 +1,4 @@
--- The third column of document 01's table: the bytes of each type's fields, of the common part, and of each group.
+-- The third column of the table of layouts: the bytes of each type's fields, of the common part, and of each group.
 -- Assumes nothing.
 use mathlib.Core.Path.{_≡_, refl}
 use mathlib.Core.List.{[], _∷_, map}

@@ -35,7 +35,7 @@ kept h e = toZ-ofZ {w = w64} (record { sfits = h }) ∙ e
 abbrev pub with-texts : {A : Type 0} → Answer A → List ℕ → ℕ → WithTexts A
 with-texts a b n = record { answer = a; texts = b; used = n }
 
--- the verdict that the code found is the paper's
+-- the verdict that the code found is the definition's
 pub found-by : {v w : Verdict} {a : Answer Unit} → v ≡ w → layout-paper.meansVerdict v ≡ a → a ≡ layout-paper.meansVerdict w
 found-by e f = sym f ∙ ap layout-paper.meansVerdict e
 
@@ -62,7 +62,7 @@ common-and k h s = simp (h, and-true)
 
 -- ---- a frame's bytes
 
--- what the code found in them is the paper's
+-- what the code found in them is the definition's
 pub framed-by : {v w : Framed} {a : Answer Frame} → v ≡ w → framing-of.meansFramed v ≡ a → a ≡ framing-of.meansFramed w
 framed-by e f = sym f ∙ ap framing-of.meansFramed e
 

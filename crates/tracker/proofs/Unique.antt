@@ -20,7 +20,7 @@ use Rattle.tracker.specs.SetUp as begin
 use Rattle.tracker.specs.Arrived.{Arrival, Outcome, arrive, arrivalSaid, meansReply}
 use Rattle.tracker.specs.Request as request
 
--- the verdict that a paper's number or word names
+-- the verdict that a number or a word names
 unfoldable pub named : Answer ArrivalSaid → Verdict
 named (accepted new) = New
 named (accepted late) = Late

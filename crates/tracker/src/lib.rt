@@ -38,7 +38,7 @@ pub enum Start {
 }
 
 impl Start {
-    // The paper's number of the refusal; 0 where it is none.
+    // The refusal's number; 0 where it is none.
     pub fn number(self) -> u32
         ensures { λ r. ⌜ r ≡ refusalNumber (startOf self) ⌝ }
     {
@@ -68,7 +68,7 @@ pub enum Verdict {
 }
 
 impl Verdict {
-    // The paper's number of the refusal; 0 where it is none.
+    // The refusal's number; 0 where it is none.
     pub fn number(self) -> u32
         ensures { λ r. ⌜ r ≡ refusalNumber (arrivalSaid self) ⌝ }
     {
@@ -104,7 +104,7 @@ impl Requested {
     // The most numbers that one request asks for.
     pub const BATCH: u64 = 200;
 
-    // The paper's number of the refusal; 0 where it is none.
+    // The refusal's number; 0 where it is none.
     pub fn number(self) -> u32
         ensures { λ r. ⌜ r ≡ refusalNumber (requested self) ⌝ }
     {

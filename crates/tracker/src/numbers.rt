@@ -1,4 +1,4 @@
-// The paper's numbers of the tracker's refusals.
+// The numbers of the tracker's refusals.
 
 pub(crate) const NONE: u32 = 0;
 

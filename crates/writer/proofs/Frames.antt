@@ -77,7 +77,7 @@ module _ (h limit : ℕ) (hd b z : List ℕ) (g : 4 ≤ h) (n : length hd ≡ h)
       let e : h + length b - h ≡ length b = omega arith in
       rw (split, e, append-assoc hd b _, drop-at hd _ h n) (take-append-seam b _)
 
--- a header of this paper says its type and the body's length
+-- a header says its type and the body's length
 module _ (type l : ℕ) (t : type < 256 ^ 4) (k : l < 256 ^ 4) where
   pub length-header : length (header type l) ≡ headerWidth
   unfolding header
@@ -121,7 +121,7 @@ module _ (h limit : ℕ) (s : List ℕ) (f : Frame) (b : Bytes s) (e : read h li
       let z : h + f .len - 0 ≡ h + f .len = omega arith in
       rw (a .total, take-add (h + f .len) 4 s, ← digits-beAt s (h + f .len) 4 b i, a .sum, z)
 
--- the header of this paper
+-- the header of a frame
 header-again : (s : List ℕ) → Bytes s → 8 ≤ length s → take 8 s ≡ header (typeOf s) (lengthOf 8 s)
 unfolding header
 header-again s b i =
