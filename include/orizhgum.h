@@ -371,9 +371,6 @@ struct orizhgum_cursor orizhgum_cursor(uint32_t kind, const uint8_t *body, size_
  * written where the answer is 0 and the entry says 1, 3 or 5; everywhere else it is left as it stood */
 struct orizhgum_step_answer orizhgum_next(struct orizhgum_cursor at, uint32_t kind, const uint8_t *body, size_t length, int64_t *price);
 
-/* the same without the price, for a host that looks at none; orizhgum_next is the faster call */
-struct orizhgum_step_answer orizhgum_step(struct orizhgum_cursor at, uint32_t kind, const uint8_t *body, size_t length);
-
 /* the price alone, for a host that kept a cursor; ORIZHGUM_NO_PRICE, and every other answer but 0, leaves *price as it stood */
 uint32_t orizhgum_step_price(struct orizhgum_cursor at, uint32_t kind, const uint8_t *body, size_t length, int64_t *price);
 

@@ -31,13 +31,14 @@ pub fn cursor(kind: u32, body: &[u8]) -> Cursor {
     unsafe { orizhgum_cursor(kind, body.as_ptr(), body.len()) }
 }
 
-pub fn step(at: Cursor, kind: u32, body: &[u8]) -> StepAnswer {
-    unsafe { orizhgum_step(at, kind, body.as_ptr(), body.len()) }
-}
-
 /// A step, whose lent price is written where the entry says one.
 pub fn next(at: Cursor, kind: u32, body: &[u8], price: &mut i64) -> StepAnswer {
     unsafe { orizhgum_next(at, kind, body.as_ptr(), body.len(), price) }
+}
+
+/// A step whose price nobody looks at.
+pub fn step(at: Cursor, kind: u32, body: &[u8]) -> StepAnswer {
+    next(at, kind, body, &mut 0)
 }
 
 pub fn set_up(channels: &[u16]) -> Tracker {

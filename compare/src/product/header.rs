@@ -406,7 +406,6 @@ calls! {
     fn orizhgum_group(kind: u32, body: *const u8, length: usize, i: u32) -> GroupAnswer;
     fn orizhgum_cursor(kind: u32, body: *const u8, length: usize) -> Cursor;
     fn orizhgum_next(at: Cursor, kind: u32, body: *const u8, length: usize, price: *mut i64) -> StepAnswer;
-    fn orizhgum_step(at: Cursor, kind: u32, body: *const u8, length: usize) -> StepAnswer;
     fn orizhgum_step_price(at: Cursor, kind: u32, body: *const u8, length: usize, price: *mut i64) -> u32;
     fn orizhgum_entry(kind: u32, body: *const u8, length: usize, i: u32) -> EntryAnswer;
     fn orizhgum_entry_price(kind: u32, body: *const u8, length: usize, i: u32, price: *mut i64) -> u32;

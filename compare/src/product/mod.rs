@@ -326,13 +326,7 @@ impl Receiver for Product {
     }
 
     fn step(&self, kind: u32, body: &[u8], cursor: Cursor) -> StepAnswer {
-        let told = unsafe { orizhgum_step(cursor, kind, lent(body), body.len()) };
-        let mut price = 0;
-        let priced = self.step_price(kind, body, cursor, &mut price);
-        StepAnswer {
-            entry: found(told.answer, &told.entry, priced, price),
-            next: told.next,
-        }
+        self.next(kind, body, cursor, &mut 0)
     }
 
     fn next(&self, kind: u32, body: &[u8], cursor: Cursor, price: &mut i64) -> StepAnswer {

@@ -16,7 +16,6 @@ use Rattle.orizhgum.proofs.entry.orizhgum_entry as entry
 use Rattle.orizhgum.proofs.entry.orizhgum_entry_price as entry-price
 use Rattle.orizhgum.proofs.entry.orizhgum_quantity as quantity
 use Rattle.orizhgum.proofs.entry.orizhgum_cursor as cursor
-use Rattle.orizhgum.proofs.entry.orizhgum_step as step
 use Rattle.orizhgum.proofs.entry.orizhgum_step_price as step-price
 use Rattle.orizhgum.proofs.next.orizhgum_next as next
 use Rattle.orizhgum.proofs.arrivals.orizhgum_set_up as set-up
@@ -54,7 +53,6 @@ checked-from-c =
       entry-price = record { meets = entry-price.Met.met; free = λ κs a. tt; known = entry-price.Reads.known };
       quantity = record { meets = quantity.Met.met; free = λ κs a. tt; known = quantity.Reads.known };
       cursor = record { meets = cursor.Met.met; free = λ κs a. tt; known = cursor.Reads.known };
-      step = record { meets = step.Met.met; free = λ κs a. tt; known = step.Reads.known };
       next = record { meets = next.Met.met; free = λ κs a. tt; known = next.Reads.known };
       step-price = record { meets = step-price.Met.met; free = λ κs a. tt; known = step-price.Reads.known };
       set-up = record { meets = set-up.Met.met; free = λ κs a. tt; known = set-up.Reads.known };

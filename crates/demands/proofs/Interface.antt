@@ -60,7 +60,7 @@ use Rattle.demands.specs.Interface as c
 use Rattle.demands.specs.Interface.{NoRefusal, NumberBy, Refusals, judgedBy, shownOf, SameAnswers, GivesBack, StructsReadBack, StructsSameBytes, Numbered, PlayFromC, Playing, PlaysAsPlayed, StartsFresh}
 use Rattle.demands.proofs.Calls.{frame-read-as, judge-as, read-as, group-of-as, entry-of-as, quantity-of-as, start-as, step-as, write-as, set-up-as, arrives-as, request-as}
 use Rattle.demands.proofs.Calls as calls
-use Rattle.demands.proofs.CalledFromC.{frame-from, judge-from, record-from, group-from, entry-from, entry-price-from, quantity-from, cursor-from, step-from, next-from, step-price-from, set-up-from, answered, arrives-from, request-from, write-from}
+use Rattle.demands.proofs.CalledFromC.{frame-from, judge-from, record-from, group-from, entry-from, entry-price-from, quantity-from, cursor-from, next-from, step-price-from, set-up-from, answered, arrives-from, request-from, write-from}
 use Rattle.demands.proofs.Rules.{by-body}
 use Rattle.demands.proofs.Demand1 as judging
 use Rattle.demands.proofs.Demand1.{by-frame, by-type, group-asked, entry-asked, quantity-asked, stepped, written, started, asked, nothing-written}
@@ -215,10 +215,6 @@ refusals =
         same = λ k. entry-price-from h .1 ∙ priced-left (entryOf type b i) z (λ e. k (entry-price-from h .0 ∙ e));
       };
       quantity = λ type b i j r h. told-as (ap (λ (x : QuantityAnswer). x .answer) (quantity-from h)) (number-by (λ a. quantityAnswer a .answer) quantity-no (λ n vs. refl) (quantity-asked type b i j .judged));
-      step = λ at type b r h. record {
-        number = told-as (ap (λ (x : StepAnswer). x .answer) (step-from h)) (number-by (λ a. stepAnswer a at .answer) (step-no at) (λ n vs. refl) (stepped type b (meansCursor at) .judged));
-        same = λ k. ap (λ (x : StepAnswer). x .next) (step-from h) ∙ step-left (step (named type) b (meansCursor at)) at (λ e. k (ap (λ (x : StepAnswer). x .answer) (step-from h) ∙ e));
-      };
       next = λ at type b z r left h. record {
         number = told-as (ap (λ (x : StepAnswer). x .answer) (next-from h .0)) (number-by (λ a. stepAnswer a at .answer) (step-no at) (λ n vs. refl) (stepped type b (meansCursor at) .judged));
         same = λ k. ap (λ (x : StepAnswer). x .next) (next-from h .0) ∙ step-left (step (named type) b (meansCursor at)) at (λ e. k (ap (λ (x : StepAnswer). x .answer) (next-from h .0) ∙ e));
@@ -265,7 +261,6 @@ same-answers =
       entry-price = λ type b i z n left a h p. (entry-price-from h .0 ∙ ap pricing (sym (entry-of-as p)), entry-price-from h .1 ∙ ap (λ x. pricedLeft x z) (sym (entry-of-as p)));
       quantity = λ type b i j r a h p. quantity-from h ∙ ap quantityAnswer (sym (quantity-of-as p));
       cursor = λ type b r a h p. cursor-from h ∙ sym (start-as p);
-      step = λ at type b r a h p. step-from h ∙ ap (λ x. stepAnswer x at) (sym (step-as p));
       next = λ at type b z r left a h p. (next-from h .0 ∙ ap (λ x. stepAnswer x at) (sym (step-as p)), next-from h .1 ∙ ap (λ x. pricedLeft (entryFound x) z) (sym (step-as p)));
       step-price = λ at type b z n left a h p. (step-price-from h .0 ∙ ap (λ x. pricing (entryFound x)) (sym (step-as p)), step-price-from h .1 ∙ ap (λ x. pricedLeft (entryFound x) z) (sym (step-as p)));
       set-up = λ numbers r a h p. set-up-from h ∙ ap startAnswer (sym (set-up-as p));

@@ -23,7 +23,6 @@ use Rattle.gaps.proofs.Exact.{Exact, fresh-exact, taken-exact}
 use Rattle.gaps.proofs.Alone as alone
 use Rattle.gaps.proofs.Alone.{Judged, judge, leaves, words, after, play, answers, small}
 use Rattle.tracker.specs.declared.Tracker.{Tracker}
-use Rattle.tracker.specs.Places.{channelAt}
 use Rattle.tracker.specs.Rules.{wellFormed}
 use Rattle.seats.specs.Seat.{placeFrom}
 use Rattle.tracker.specs.Arrived.{Arrival, place, Outcome, settled, arrive, arrivalSaid}

@@ -17,7 +17,6 @@ use Rattle.orizhgum.proofs.entry.orizhgum_entry as entry
 use Rattle.orizhgum.proofs.entry.orizhgum_entry_price as entry-price
 use Rattle.orizhgum.proofs.entry.orizhgum_quantity as quantity
 use Rattle.orizhgum.proofs.entry.orizhgum_cursor as cursor
-use Rattle.orizhgum.proofs.entry.orizhgum_step as step
 use Rattle.orizhgum.proofs.entry.orizhgum_step_price as step-price
 use Rattle.orizhgum.proofs.next.orizhgum_next as next
 use Rattle.orizhgum.proofs.arrivals.orizhgum_set_up as set-up
@@ -53,7 +52,6 @@ pub record CheckedFromC : Type 2 where
   pub entry-price : Proved entry-price.Statement.statement 2 entry-price.Kinds.ps entry-price.Kinds.r entry-price.Reads.Ghost entry-price.Reads.requires entry-price.Reads.ensures entry-price.Reads.Asked entry-price.Reads.Learnt
   pub quantity : Proved quantity.Statement.statement 1 quantity.Kinds.ps quantity.Kinds.r quantity.Reads.Ghost quantity.Reads.requires quantity.Reads.ensures quantity.Reads.Asked quantity.Reads.Learnt
   pub cursor : Proved cursor.Statement.statement 1 cursor.Kinds.ps cursor.Kinds.r cursor.Reads.Ghost cursor.Reads.requires cursor.Reads.ensures cursor.Reads.Asked cursor.Reads.Learnt
-  pub step : Proved step.Statement.statement 1 step.Kinds.ps step.Kinds.r step.Reads.Ghost step.Reads.requires step.Reads.ensures step.Reads.Asked step.Reads.Learnt
   pub next : Proved next.Statement.statement 2 next.Kinds.ps next.Kinds.r next.Reads.Ghost next.Reads.requires next.Reads.ensures next.Reads.Asked next.Reads.Learnt
   pub step-price : Proved step-price.Statement.statement 2 step-price.Kinds.ps step-price.Kinds.r step-price.Reads.Ghost step-price.Reads.requires step-price.Reads.ensures step-price.Reads.Asked step-price.Reads.Learnt
   pub set-up : Proved set-up.Statement.statement 1 set-up.Kinds.ps set-up.Kinds.r set-up.Reads.Ghost set-up.Reads.requires set-up.Reads.ensures set-up.Reads.Asked set-up.Reads.Learnt

@@ -51,7 +51,7 @@ use Rattle.orizhgum.specs.declared.entry.QuantityAnswer.{QuantityAnswer}
 use Rattle.orizhgum.specs.declared.arrivals.StartAnswer.{StartAnswer}
 use Rattle.orizhgum.specs.declared.written.WriteAnswer.{WriteAnswer}
 use Rattle.demands.specs.Calls.{FrameRead, Judge, Read, GroupOf, EntryOf, QuantityOf, CursorStart, CursorStep, SetsUp, Arrives, Request, Write}
-use Rattle.demands.specs.CalledFromC.{FrameFromC, JudgeFromC, RecordFromC, GroupFromC, EntryFromC, EntryPriceFromC, QuantityFromC, CursorFromC, StepFromC, NextFromC, StepPriceFromC, SetUpFromC, ArrivesFromC, RequestFromC, WriteFromC}
+use Rattle.demands.specs.CalledFromC.{FrameFromC, JudgeFromC, RecordFromC, GroupFromC, EntryFromC, EntryPriceFromC, QuantityFromC, CursorFromC, NextFromC, StepPriceFromC, SetUpFromC, ArrivesFromC, RequestFromC, WriteFromC}
 use Rattle.demands.specs.Rules.{Rule}
 use Rattle.demands.specs.Demand1.{frameRules, bodyRules, stepRules, writerRules, setUpRules, arrivalRules, requestRules}
 use Rattle.demands.specs.Demand2.{Held, NoTail}
@@ -94,10 +94,7 @@ pub record Refusals : Type 1 where
   pub entry-price :
       (type : ℕ) (b : List ℕ) (i : ℕ) (z : ℤ) (n : ℕ) (left : ℤ) → EntryPriceFromC type b i z n left → PlainBy (bodyRules type b) n z left
   pub quantity : (type : ℕ) (b : List ℕ) (i j : ℕ) (r : QuantityAnswer) → QuantityFromC type b i j r → NumberBy (bodyRules type b) (r .answer)
-  -- `orizhgum_step`; `orizhgum_next`, the cursor and the lent number; `orizhgum_step_price`
-  pub step :
-      (c : Cursor) (type : ℕ) (b : List ℕ) (r : StepAnswer) → StepFromC c type b r →
-      PlainBy (stepRules type b (meansCursor c)) (r .answer) c (r .next)
+  -- `orizhgum_next`, the cursor and the lent number; `orizhgum_step_price`
   pub next :
       (c : Cursor) (type : ℕ) (b : List ℕ) (z : ℤ) (r : StepAnswer) (left : ℤ) → NextFromC c type b z r left →
       PlainBy (stepRules type b (meansCursor c)) (r .answer) c (r .next)
@@ -160,8 +157,7 @@ pub record SameAnswers : Type 0 where
       r ≡ quantityAnswer (meansQuantity a)
   -- `orizhgum_cursor`, `Cursor::start`
   pub cursor : (type : ℕ) (b : List ℕ) (r a : Cursor) → CursorFromC type b r → CursorStart type b a → meansCursor r ≡ meansCursor a
-  -- `orizhgum_step`, `orizhgum_next`, `orizhgum_step_price`, `Cursor::step`
-  pub step : (c : Cursor) (type : ℕ) (b : List ℕ) (r : StepAnswer) (a : Step) → StepFromC c type b r → CursorStep c type b a → r ≡ stepAnswer (meansStep a) c
+  -- `orizhgum_next`, `orizhgum_step_price`, `Cursor::step`
   pub next :
       (c : Cursor) (type : ℕ) (b : List ℕ) (z : ℤ) (r : StepAnswer) (left : ℤ) (a : Step) → NextFromC c type b z r left → CursorStep c type b a →
       (r ≡ stepAnswer (meansStep a) c) × (left ≡ pricedLeft (entryFound (meansStep a)) z)

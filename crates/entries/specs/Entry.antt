@@ -1,17 +1,15 @@
 -- What an entry says; entries by position, shown quantities and the cursor, over layout's place, shown and judgedFrom.
 -- Assumes nothing.
 use Prim.Native.Nat.{ℕ, zero, suc, _+_, _-_, _*_}
-use mathlib.Core.Bool.{Bool, true, false, cond}
+use mathlib.Core.Bool.{Bool, false, cond}
 use mathlib.Core.List.{List, [], _∷_}
 use lib.Dec.{eqb}
 use lib.IntN.{ℤ, pos, negsuc, negℤ}
 use lib.ListN.{getD}
-use mir.Syntax.{w64}
-use mir.Val.{toZ}
 use Rattle.wire.specs.Answer.{Answer, accepted, refused, guard, andThen}
 use Rattle.wire.specs.Bytes.{beAt}
 use Rattle.layout.specs.Kind.{among, entryType, groupCount, quantity, form, valueIn, width}
-use Rattle.layout.specs.Layout.{commonSize, Message, Listed, listed, unlisted, named, Group, Entries, ofSnapshot, ofIndex, entryGroup, Behind, nothing, groups, entries, behind, values}
+use Rattle.layout.specs.Layout.{commonSize, Listed, listed, unlisted, named, Group, Entries, ofSnapshot, ofIndex, entryGroup, Behind, nothing, groups, entries, behind, values}
 use Rattle.layout.specs.Group.{shown, shownOffset, nextOffset, groupOffset, judgeGroups, groupsStart, countAt}
 use Rattle.record.specs.Asked.{Asked, found, noSuchEntry, below, judge}
 

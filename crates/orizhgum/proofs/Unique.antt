@@ -1,6 +1,5 @@
 -- Two answers on a record that meet a promise are equal. The promises of the other calls give their answer itself.
 -- Assumes nothing.
-use Prim.Native.Nat.{ℕ}
 use mathlib.Core.Path.{_≡_, ap}
 use mathlib.Core.List.{[]}
 use Rattle.wire.specs.Answer.{accepted}

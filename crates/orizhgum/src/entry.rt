@@ -234,30 +234,6 @@ pub extern "C" fn orizhgum_cursor(kind: u32, body: &[u8]) -> Cursor
     Cursor::start(kind, body)
 }
 
-// The entry at a cursor, and the cursor behind it; where there is none, or it is refused, the cursor as it stood.
-#[no_mangle]
-pub extern "C" fn orizhgum_step(at: Cursor, kind: u32, body: &[u8]) -> StepAnswer
-    ensures { λ r. ⌜ r ≡ stepAnswer (step (named kind) (now (body .entry)) (meansCursor at)) at ⌝ }
-{
-    match at.step(kind, body) {
-        Step::Found(e, next) => StepAnswer {
-            answer: PLAIN,
-            entry: without_price(e),
-            next,
-        },
-        Step::NoSuchEntry => StepAnswer {
-            answer: NO_SUCH_ENTRY,
-            entry: no_entry(),
-            next: at,
-        },
-        Step::Refused(x) => StepAnswer {
-            answer: x.number(),
-            entry: no_entry(),
-            next: at,
-        },
-    }
-}
-
 // The price of the entry at a cursor, as that of entry i.
 #[no_mangle]
 pub extern "C" fn orizhgum_step_price(at: Cursor, kind: u32, body: &[u8], price: &mut i64) -> u32

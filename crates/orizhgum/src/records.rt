@@ -32,6 +32,9 @@ pub extern "C" fn orizhgum_judge(kind: u32, body: &[u8]) -> u32
     }
 }
 
+// The texts of a refusal.
+const NO_TEXTS: [u8; TEXT_ROOM] = [0; TEXT_ROOM];
+
 #[repr(C)]
 pub struct OrderAnswer {
     pub answer: u32,
@@ -56,7 +59,7 @@ pub extern "C" fn orizhgum_order(body: &[u8]) -> OrderAnswer
         Verdict::Refused(x) => OrderAnswer {
             answer: x.number(),
             numbers: record::order_of(&body[0..0]),
-            texts: [0u8; TEXT_ROOM],
+            texts: NO_TEXTS,
         },
     }
 }
@@ -85,7 +88,7 @@ pub extern "C" fn orizhgum_trade(body: &[u8]) -> TradeAnswer
         Verdict::Refused(x) => TradeAnswer {
             answer: x.number(),
             numbers: record::trade_of(&body[0..0]),
-            texts: [0u8; TEXT_ROOM],
+            texts: NO_TEXTS,
         },
     }
 }
@@ -114,7 +117,7 @@ pub extern "C" fn orizhgum_channel_heartbeat(body: &[u8]) -> ChannelHeartbeatAns
         Verdict::Refused(x) => ChannelHeartbeatAnswer {
             answer: x.number(),
             numbers: record::channel_heartbeat_of(&body[0..0]),
-            texts: [0u8; TEXT_ROOM],
+            texts: NO_TEXTS,
         },
     }
 }
@@ -143,7 +146,7 @@ pub extern "C" fn orizhgum_resend(body: &[u8]) -> ResendAnswer
         Verdict::Refused(x) => ResendAnswer {
             answer: x.number(),
             numbers: record::resend_of(&body[0..0]),
-            texts: [0u8; TEXT_ROOM],
+            texts: NO_TEXTS,
         },
     }
 }
@@ -172,7 +175,7 @@ pub extern "C" fn orizhgum_snapshot(body: &[u8]) -> SnapshotAnswer
         Verdict::Refused(x) => SnapshotAnswer {
             answer: x.number(),
             numbers: record::snapshot_of(&body[0..0]),
-            texts: [0u8; TEXT_ROOM],
+            texts: NO_TEXTS,
         },
     }
 }
@@ -201,7 +204,7 @@ pub extern "C" fn orizhgum_index(body: &[u8]) -> IndexAnswer
         Verdict::Refused(x) => IndexAnswer {
             answer: x.number(),
             numbers: record::index_of(&body[0..0]),
-            texts: [0u8; TEXT_ROOM],
+            texts: NO_TEXTS,
         },
     }
 }
@@ -230,7 +233,7 @@ pub extern "C" fn orizhgum_volume_index(body: &[u8]) -> VolumeIndexAnswer
         Verdict::Refused(x) => VolumeIndexAnswer {
             answer: x.number(),
             numbers: record::volume_index_of(&body[0..0]),
-            texts: [0u8; TEXT_ROOM],
+            texts: NO_TEXTS,
         },
     }
 }
@@ -259,7 +262,7 @@ pub extern "C" fn orizhgum_statistics(body: &[u8]) -> StatisticsAnswer
         Verdict::Refused(x) => StatisticsAnswer {
             answer: x.number(),
             numbers: record::statistics_of(&body[0..0]),
-            texts: [0u8; TEXT_ROOM],
+            texts: NO_TEXTS,
         },
     }
 }
@@ -288,7 +291,7 @@ pub extern "C" fn orizhgum_security_status(body: &[u8]) -> SecurityStatusAnswer
         Verdict::Refused(x) => SecurityStatusAnswer {
             answer: x.number(),
             numbers: record::security_status_of(&body[0..0]),
-            texts: [0u8; TEXT_ROOM],
+            texts: NO_TEXTS,
         },
     }
 }

@@ -6,7 +6,6 @@ use mathlib.Core.List.{List, [], _∷_}
 use native.Mathlib.Omega.{arith}
 use borrow.Author.Tests.{le-leb, lt-leb}
 use lib.ListN.{length, take, drop}
-use Rattle.wire.specs.Bytes.{beAt}
 use Rattle.wire.proofs.Be.{beAt-part}
 use Rattle.layout.specs.Kind.{Kind, Form, unsigned, signed, written, form, width, bytes}
 use Rattle.layout.specs.Layout.{Message, size, valueAt, values}

@@ -1,31 +1,29 @@
 -- How the writer judges the frame of a request: only an output too short refuses it.
 -- Assumes nothing.
-use Prim.Native.Nat.{ℕ, _+_, _≤_, _<_, _^_}
-use mathlib.Core.Path.{_≡_, refl, ap, sym, _∙_}
-use mathlib.Core.Bool.{Bool, true, false, _&&_, and-true}
+use Prim.Native.Nat.{ℕ, _≤_}
+use mathlib.Core.Path.{_≡_, refl, sym, _∙_}
+use mathlib.Core.Bool.{Bool, true, false}
 use mathlib.Core.List.{List, [], _∷_}
 use native.Mathlib.Omega.{arith}
-use borrow.Author.Tests.{le-leb, le-ltb}
-use lib.Dec.{ltb, leb, lit≤}
+use borrow.Author.Tests.{le-leb}
+use lib.Dec.{ltb}
 use lib.IntN.{ℤ, pos}
 use lib.ListN.{length}
 use Rattle.wire.specs.Answer.{Answer, accepted, refused, guard, andThen}
-use Rattle.wire.specs.Bytes.{splice}
 use Rattle.wire.specs.Refusal.{outputShort}
-use Rattle.frame.specs.Framing.{bodyLimit}
-use Rattle.layout.specs.Kind.{firstNumber, lastNumber, resendType, status, ranged}
+use Rattle.layout.specs.Kind.{lastNumber, resendType, status, ranged}
 use Rattle.layout.specs.Layout.{resend, fields, size}
 use Rattle.layout.specs.Group.{fit, groupOffset, groupRanges, even}
 use Rattle.layout.proofs.Free.{free-channel, free-text, firstNumber-as}
 use Rattle.layout.proofs.Ranges.{at-least-0}
 use Rattle.record.specs.Record.{Reading, known}
-use Rattle.bodies.specs.Body.{bodyLength, textSize, exact, numbersIn, allIn}
+use Rattle.bodies.specs.Body.{textSize, exact, numbersIn, allIn}
 use Rattle.writer.specs.Write as writer
 use Rattle.gaps.specs.declared.Run.{Run}
 use Rattle.gaps.specs.Limits.{mostNumber}
 use Rattle.tracker.specs.declared.Tracker.{Tracker}
-use Rattle.tracker.specs.FirstRun.{Lost, lost, nothingMissing, firstRun}
-use Rattle.tracker.specs.Request.{asked, spaces, numbersFor, resendOf, requestLength, roomForRequest, requestJudged, RequestSaid, written, nothing, answerOf, outputAsked, request, requestLeaves}
+use Rattle.tracker.specs.FirstRun.{Lost, lost, firstRun}
+use Rattle.tracker.specs.Request.{asked, spaces, numbersFor, resendOf, requestLength, roomForRequest, requestJudged, written, answerOf, outputAsked, request, requestLeaves}
 
 -- a 390094 frame has 44 + 12 bytes
 pub request-length : requestLength ≡ 56

@@ -9,7 +9,7 @@ use lib.Dec.{ltb, eqb}
 use lib.IntN.{ℤ, pos}
 use lib.Signed.{ltZ}
 use lib.ListN.{length, take, drop, getD, set, length-append, length-set}
-use lib.Seq.{sets, set-split, set-getD, length-take-le}
+use lib.Seq.{set-split, set-getD, length-take-le}
 use borrow.Author.Tests.{lt-ltb, le-ltb, lt-leb, le-leb, ltb-true, ltb-false, eqb-true, eqb-false}
 use Rattle.wire.specs.Answer.{Answer, accepted, refused, guard}
 use Rattle.gaps.specs.declared.Run.{Run}
@@ -36,7 +36,7 @@ use Rattle.tracker.specs.Arrived.{Outcome, on, place, settled, arrive, a
 use Rattle.rows.specs.declared.Held.{Held}
 use Rattle.rows.specs.declared.Held.the-variants.{No, AtEnd, Alone, Inside}
 use Rattle.rows.specs.Held.{leftAt, search}
-use Rattle.tracker.specs.Inside.{SoundIn, Judges, stepped, storedOrFull, raising, Changeable, relaid, replaced, shut, cleft, lateAs}
+use Rattle.tracker.specs.Inside.{SoundIn, Judges, stepped, storedOrFull, Changeable, relaid, replaced, shut, cleft, lateAs}
 use Rattle.tracker.proofs.Told.{Room, Finds, finds-no, finds-run}
 use Rattle.tracker.proofs.Row.{span-length, span-at}
 use Rattle.tracker.proofs.Hold.{held-at, search-finds}

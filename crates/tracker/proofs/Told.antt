@@ -5,7 +5,6 @@ use mathlib.Core.Path.{_≡_}
 use mathlib.Core.List.{List, [], _∷_, _++_}
 use mathlib.Core.Bool.{true, false}
 use lib.ListN.{length, take, getD}
-use Rattle.gaps.specs.declared.Run.{Run}
 use Rattle.gaps.specs.Gaps.{run, has, grow}
 use Rattle.gaps.specs.Limits.{runLimit}
 use Rattle.rows.specs.declared.Gap.{Gap}

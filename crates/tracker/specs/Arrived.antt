@@ -1,9 +1,8 @@
 -- What an arrival does to a tracker: the refusals in their order, then the channel's step.
-use Prim.Native.Nat.{ℕ, zero, suc}
-use mathlib.Core.List.{List, []}
-use mathlib.Core.Bool.{cond, not}
-use lib.Dec.{ltb, eqb}
-use lib.ListN.{getD}
+use Prim.Native.Nat.{ℕ}
+use mathlib.Core.List.{[]}
+use mathlib.Core.Bool.{not}
+use lib.Dec.{ltb}
 use Rattle.wire.specs.Answer.{Answer, accepted, refused, guard}
 use Rattle.wire.specs.Refusal.{noSuchChannel, numberTooLow, tableFull, malformed}
 use Rattle.gaps.specs.Channel.{Event, ArrivalSaid, new, late, duplicate, heard, Step, judgeEvent}

@@ -25,7 +25,7 @@ use Rattle.tracker.specs.declared.Verdict.the-variants.{Late, Duplicate,
 use Rattle.tracker.specs.declared.Judged.{Judged}
 use Rattle.tracker.specs.declared.Judged.the-variants.{Refused, At}
 use Rattle.tracker.specs.Places.{made, channelAt, put}
-use Rattle.tracker.specs.Arrived.{Outcome, on, settled, arrive, arrivalSaid, answered}
+use Rattle.tracker.specs.Arrived.{Outcome, on, settled, arrive, answered}
 use Rattle.tracker.specs.FirstRun.{Lost, lost, nothingMissing}
 
 -- ---- an arrival's channel

@@ -1,8 +1,8 @@
 -- The set-up of a tracker with its channels.
-use Prim.Native.Nat.{ℕ, _+_}
-use mathlib.Core.List.{List, [], _∷_}
-use mathlib.Core.Bool.{Bool, true, false, not, _&&_}
-use lib.Dec.{ltb, leb, eqb}
+use Prim.Native.Nat.{ℕ}
+use mathlib.Core.List.{List, []}
+use mathlib.Core.Bool.{not}
+use lib.Dec.{ltb, eqb}
 use lib.ListN.{length, replicate}
 use Rattle.wire.specs.Answer.{Answer, accepted, refused, guard}
 use Rattle.wire.specs.Refusal.{malformed}

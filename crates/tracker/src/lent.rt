@@ -1,8 +1,8 @@
 // Arrivals on the lent arrays of a tracker, which become those of the next one; a refusal leaves them as they stood.
 ghost use mathlib.Core.Path.{_≡_};
-ghost use Prim.Native.Nat.{_*_, _+_, _-_, _<_, _≤_};
+ghost use Prim.Native.Nat.{_<_, _≤_};
 ghost use lib.IntN.{pos};
-ghost use lib.ListN.{getD, set};
+ghost use lib.ListN.{getD};
 ghost use Rattle.gaps.specs.Limits.{runLimit, mostNumber};
 ghost use Rattle.gaps.specs.Channel.{tick, heartbeat};
 ghost use Rattle.seats.specs.Places.{channelLimit, placeCount};

@@ -4,7 +4,6 @@ use Prim.Native.Nat.{_-_, _≤_}
 use mathlib.Core.Path.{_≡_, refl, sym, _∙_}
 use borrow.Author.Needs.{needs}
 use native.Mathlib.Omega.{arith}
-use lib.ListN.{length}
 use denote.Ref.{now}
 use Rattle.window.proofs.Slides.{sliding, slide-length, slide-more, slide-end, slid-there, slid-beyond, slid-none}
 use Rattle.window.proofs.slide.Statement.{statement}

@@ -1,6 +1,5 @@
 use borrow.Author.Needs.{needs}
 use Prim.Native.Nat.{_≤_, _-_}
-use mathlib.Core.Path.{_≡_}
 use lib.ListN.{length}
 use Rattle.cases.proofs.refused.marked.Statement.{statement}
 use Rattle.cases.proofs.refused.marked.Tie as tie

@@ -1,7 +1,5 @@
 use borrow.Author.Needs.{needs}
 use Prim.Native.Nat.{_≤_, _-_}
-use mathlib.Core.Path.{_≡_}
-use lib.ListN.{length}
 use Rattle.cases.proofs.table.evens.Statement.{statement}
 use Rattle.cases.proofs.table.evens.Tie as tie
 

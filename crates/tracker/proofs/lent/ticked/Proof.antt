@@ -2,7 +2,6 @@ use native.Mathlib.Omega.{arith}
 use Prim.Native.Nat.{_≤_}
 use mathlib.Core.Path.{_∙_, sym}
 use lib.ListN.{getD}
-use Rattle.gaps.specs.Limits.{mostNumber}
 use Rattle.seats.specs.Arrays.{inArrays}
 use Rattle.tracker.specs.Places.{made}
 use Rattle.tracker.proofs.Put.{kept-row}

@@ -1,7 +1,7 @@
 use borrow.Author.Needs.{needs}
 use native.Mathlib.Omega.{arith}
 use denote.Ref.{now}
-use mathlib.Core.Path.{_≡_, ap, sym, _∙_}
+use mathlib.Core.Path.{ap, sym, _∙_}
 use Rattle.writer.specs.Paper as writer
 use Rattle.gaps.specs.declared.Run.{Run}
 use Rattle.tracker.specs.Request.{resendOf}

@@ -1,5 +1,4 @@
 use borrow.Author.Needs.{needs}
-use native.Mathlib.Omega.{arith}
 use mathlib.Core.Path.{sym}
 use Rattle.tracker.proofs.Batch.{asked-all, asked-batch}
 use Rattle.tracker.proofs.request.asked.Statement.{statement}
