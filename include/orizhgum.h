@@ -347,9 +347,9 @@ struct orizhgum_entry_answer {
     struct orizhgum_entry entry;
 };
 
-/* the place of the next entry, and how many are left */
+/* the offset of the next entry, and how many are left */
 struct orizhgum_cursor {
-    size_t place;
+    size_t offset;
     uint32_t left;
 };
 

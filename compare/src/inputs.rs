@@ -21,7 +21,7 @@ use crate::second::rules::Rules;
 use bodies::{Made, Wish};
 use std::fmt;
 
-/// Made-up places of a cursor go up to this.
+/// Made-up offsets of a cursor go up to this.
 const PLACE_LIMIT: u64 = usize::MAX as u64;
 
 /// Positions to ask for.
@@ -247,7 +247,7 @@ impl Inputs {
     /// A cursor on an entry of the body, or any other.
     fn cursor(&self, dice: &mut Dice, made: &Made) -> Cursor {
         let length = made.body.len() as u64;
-        let place = match dice.below(8) {
+        let offset = match dice.below(8) {
             0 => dice.below(length + 2),
             1 => length.saturating_sub(dice.below(40)),
             2 => PLACE_LIMIT - dice.below(70),
@@ -260,7 +260,7 @@ impl Inputs {
             _ => 1 + dice.below(9) as u32,
         };
         Cursor {
-            place: place as usize,
+            offset: offset as usize,
             left,
         }
     }

@@ -131,12 +131,12 @@ pub enum Group {
     },
 }
 
-/// A stepping cursor: the place of the next entry in the body, and the
+/// A stepping cursor: the offset of the next entry in the body, and the
 /// number of entries left. Its layout is the C header's.
 #[repr(C)]
 #[derive(Clone, Copy, PartialEq, Eq, Debug)]
 pub struct Cursor {
-    pub place: usize,
+    pub offset: usize,
     pub left: u32,
 }
 
@@ -276,7 +276,7 @@ pub trait Receiver {
 
     /// The cursor on the first entry. It judges nothing: where the body ends
     /// in or before the count, the bytes that are there are the count. A type
-    /// without entries has place 0 and 0 left.
+    /// without entries has offset 0 and 0 left.
     fn start(&self, kind: u32, body: &[u8]) -> Cursor;
 
     /// Steps over one entry: "no such entry" where none is left or the type

@@ -57,30 +57,30 @@ fn told_of_index(e: &[u8]) -> Told {
     }
 }
 
-/// The entry of a snapshot at a place, after 4 and 5, and its width.
+/// The entry of a snapshot at an offset, after 4 and 5, and its width.
 #[inline(always)]
-fn of_snapshot(place: usize, s: &[u8]) -> Result<(Told, usize), u32> {
-    if s.len() < place || s.len() - place < 32 {
+fn of_snapshot(offset: usize, s: &[u8]) -> Result<(Told, usize), u32> {
+    if s.len() < offset || s.len() - offset < 32 {
         return Err(4);
     }
-    let e = &s[place..place + 32];
+    let e = &s[offset..offset + 32];
     let shown = word(e, 28) as usize;
-    if s.len() - place - 32 < 8 * shown {
+    if s.len() - offset - 32 < 8 * shown {
         return Err(4);
     }
-    if !entry_in(s, place) {
+    if !entry_in(s, offset) {
         return Err(5);
     }
     Ok((told(e), 32 + 8 * shown))
 }
 
-/// The entry of an index at a place, after 4 and 5, and its width.
+/// The entry of an index at an offset, after 4 and 5, and its width.
 #[inline(always)]
-fn of_index(place: usize, s: &[u8]) -> Result<(Told, usize), u32> {
-    if s.len() < place || s.len() - place < 10 {
+fn of_index(offset: usize, s: &[u8]) -> Result<(Told, usize), u32> {
+    if s.len() < offset || s.len() - offset < 10 {
         return Err(4);
     }
-    let e = &s[place..place + 10];
+    let e = &s[offset..offset + 10];
     if !price(int(e, 2)) {
         return Err(5);
     }
@@ -91,14 +91,14 @@ fn of_index(place: usize, s: &[u8]) -> Result<(Told, usize), u32> {
 fn stepped(at: Cursor, kind: u32, s: &[u8]) -> (StepAnswer, Option<i64>) {
     let found = match kind {
         _ if at.left == 0 => Err(NO_SUCH_ENTRY),
-        SNAPSHOT => of_snapshot(at.place, s),
-        INDEX => of_index(at.place, s),
+        SNAPSHOT => of_snapshot(at.offset, s),
+        INDEX => of_index(at.offset, s),
         _ => Err(NO_SUCH_ENTRY),
     };
     let (answer, entry, price, next) = match found {
         Ok(((entry, price), width)) => {
-            let (place, left) = (at.place + width, at.left - 1);
-            (0, entry, price, Cursor { place, left })
+            let (offset, left) = (at.offset + width, at.left - 1);
+            (0, entry, price, Cursor { offset, left })
         }
         Err(answer) => (answer, Entry::default(), None, at),
     };
@@ -131,7 +131,7 @@ pub fn next(at: Cursor, kind: u32, s: &[u8], price: &mut i64) -> StepAnswer {
 pub fn cursor(kind: u32, s: &[u8]) -> Cursor {
     let counted = matches!(kind, SNAPSHOT | INDEX) && s.len() >= 69;
     Cursor {
-        place: 69,
+        offset: 69,
         left: if counted { word(s, 65) } else { 0 },
     }
 }
@@ -139,7 +139,7 @@ pub fn cursor(kind: u32, s: &[u8]) -> Cursor {
 /// All steps from the first entry on, each answer seen.
 fn steps(s: &[u8], step: impl Fn(Cursor, u32, &[u8]) -> StepAnswer) -> u32 {
     let mut at = black_box(Cursor {
-        place: 69,
+        offset: 69,
         left: 28,
     });
     let mut taken = 0;
@@ -180,7 +180,7 @@ fn agree(s: &[u8]) {
     same(at, cursor(SNAPSHOT, s));
     while at.left > 0 {
         agree_at(at, s);
-        agree_at(at, &s[..at.place + 31]);
+        agree_at(at, &s[..at.offset + 31]);
         at = calls::step(at, SNAPSHOT, s).next;
     }
     agree_at(at, s);

@@ -88,7 +88,7 @@ pub fn checksum(bytes: &[u8]) -> u32 {
     u32::from(bytes.iter().fold(0u8, |a, &b| a.wrapping_add(b)))
 }
 
-/// Where the groups of a snapshot end, if the bytes have them all from a place on.
+/// Where the groups of a snapshot end, if the bytes have them all from an offset on.
 pub fn entries_end(s: &[u8], mut at: usize, count: u32) -> Option<usize> {
     for _ in 0..count {
         let shown = word(s.get(at..at + 32)?, 28) as usize;
@@ -101,7 +101,7 @@ pub fn entries_end(s: &[u8], mut at: usize, count: u32) -> Option<usize> {
     Some(at)
 }
 
-/// Whether the fields and shown quantities of a snapshot's entry at a place, all there, are in range.
+/// Whether the fields and shown quantities of a snapshot's entry at an offset, all there, are in range.
 pub fn entry_in(s: &[u8], at: usize) -> bool {
     let e = &s[at..at + 32];
     let shown = word(e, 28) as usize;

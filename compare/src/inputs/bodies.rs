@@ -4,21 +4,21 @@ use super::dice::Dice;
 use crate::layout::{layout, width, Field, Layout, Meaning, INDEX, LISTED, QUANTITY};
 use crate::second::rules::{Allowed, Rules};
 
-/// A field and its place in a body.
+/// A field and its offset in a body.
 #[derive(Clone, Copy)]
 pub struct Piece {
-    pub place: usize,
+    pub offset: usize,
     pub field: Field,
 }
 
-/// A body with the place of each of its fields.
+/// A body with the offset of each of its fields.
 pub struct Made {
     pub kind: u32,
     pub body: Vec<u8>,
     pub pieces: Vec<Piece>,
     /// The bytes of the fixed part.
     pub fixed: usize,
-    /// The place of each group, and its shown count.
+    /// The offset of each group, and its shown count.
     pub groups: Vec<(usize, u32)>,
 }
 
@@ -61,7 +61,7 @@ impl Made {
         (self.groups.len() as u32, (position as u32, shown))
     }
 
-    /// The place of one group, or of the end of the fixed part.
+    /// The offset of one group, or of the end of the fixed part.
     pub fn a_group(&self, dice: &mut Dice) -> usize {
         if self.groups.is_empty() {
             return self.fixed;
@@ -72,7 +72,7 @@ impl Made {
     /// Adds a field that holds these bytes.
     fn add(&mut self, field: Field, bytes: &[u8]) {
         self.pieces.push(Piece {
-            place: self.body.len(),
+            offset: self.body.len(),
             field,
         });
         self.body.extend_from_slice(bytes);
@@ -82,7 +82,7 @@ impl Made {
     pub fn put(&mut self, piece: Piece, number: i64) {
         let width = piece.field.meaning.width();
         let bytes = &number.to_be_bytes()[8 - width..];
-        self.body[piece.place..piece.place + width].copy_from_slice(bytes);
+        self.body[piece.offset..piece.offset + width].copy_from_slice(bytes);
     }
 
     /// Puts the number of groups into the group count.

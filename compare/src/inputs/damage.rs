@@ -56,8 +56,8 @@ fn flip(dice: &mut Dice, bytes: &mut [u8]) {
         return;
     }
     for _ in 0..=dice.below(3) {
-        let place = dice.below(bytes.len() as u64) as usize;
-        bytes[place] ^= 1 << dice.below(8);
+        let offset = dice.below(bytes.len() as u64) as usize;
+        bytes[offset] ^= 1 << dice.below(8);
     }
 }
 
@@ -70,8 +70,8 @@ pub fn wrong_checksum(dice: &mut Dice, made: &Made) -> Vec<u8> {
         bytes[end - 4..].copy_from_slice(&other);
         return bytes;
     }
-    let place = end - 1 - dice.below(4) as usize;
-    bytes[place] = bytes[place].wrapping_add(1 + dice.below(255) as u8);
+    let offset = end - 1 - dice.below(4) as usize;
+    bytes[offset] = bytes[offset].wrapping_add(1 + dice.below(255) as u8);
     bytes
 }
 
@@ -122,22 +122,22 @@ pub fn body_cut(dice: &mut Dice, made: &Made) -> Vec<u8> {
 /// A frame with another group count or shown count.
 pub fn counts_changed(dice: &mut Dice, made: &Made) -> Vec<u8> {
     let mut body = made.body.clone();
-    if let Some(place) = a_count(dice, made) {
-        let four = &mut body[place..place + 4];
+    if let Some(offset) = a_count(dice, made) {
+        let four = &mut body[offset..offset + 4];
         let count = u32::from_be_bytes([four[0], four[1], four[2], four[3]]);
         four.copy_from_slice(&other_count(dice, count).to_be_bytes());
     }
     frame_of(made.kind, &body)
 }
 
-/// The place of one of the counts.
+/// The offset of one of the counts.
 pub fn a_count(dice: &mut Dice, made: &Made) -> Option<usize> {
     let is_count = |piece: &&Piece| piece.field.meaning == Meaning::Count;
     let counts: Vec<&Piece> = made.pieces.iter().filter(is_count).collect();
     if counts.is_empty() {
         return None;
     }
-    Some(dice.pick(&counts).place)
+    Some(dice.pick(&counts).offset)
 }
 
 /// Another count: one more or fewer, or one that wraps around when it is
@@ -192,7 +192,7 @@ pub fn body_hurt(rules: &Rules, dice: &mut Dice, made: &mut Made) {
 pub fn group_hurt(dice: &mut Dice, made: &mut Made) {
     let in_group = |piece: &&Piece| {
         let meaning = piece.field.meaning;
-        piece.place >= made.fixed && !meaning.is_text() && meaning != Meaning::Count
+        piece.offset >= made.fixed && !meaning.is_text() && meaning != Meaning::Count
     };
     let pieces: Vec<Piece> = made.pieces.iter().filter(in_group).copied().collect();
     if pieces.is_empty() {

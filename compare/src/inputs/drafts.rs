@@ -20,8 +20,8 @@ struct Parts {
 /// Takes a body apart.
 fn parts(made: &Made) -> Parts {
     let (mut numbers, mut texts, mut place) = ([0; NUMBERS], Vec::new(), 0);
-    for piece in made.pieces.iter().filter(|piece| piece.place < made.fixed) {
-        let bytes = &made.body[piece.place..piece.place + piece.field.meaning.width()];
+    for piece in made.pieces.iter().filter(|piece| piece.offset < made.fixed) {
+        let bytes = &made.body[piece.offset..piece.offset + piece.field.meaning.width()];
         if piece.field.meaning.is_text() {
             texts.extend_from_slice(bytes);
         } else {
@@ -136,17 +136,17 @@ fn change_groups(dice: &mut Dice, layout: &Layout, parts: &mut Parts) {
 
 /// Another group count or shown count.
 fn change_count(dice: &mut Dice, made: &Made, parts: &mut Parts) {
-    let Some(place) = a_count(dice, made) else {
+    let Some(offset) = a_count(dice, made) else {
         return change_length(dice, &mut parts.groups);
     };
-    if place < made.fixed {
-        let fixed = made.pieces.iter().filter(|piece| piece.place < made.fixed);
+    if offset < made.fixed {
+        let fixed = made.pieces.iter().filter(|piece| piece.offset < made.fixed);
         let last = fixed.filter(|piece| !piece.field.meaning.is_text()).count() - 1;
         let count = parts.numbers[last] as u32;
         parts.numbers[last] = i64::from(other_count(dice, count));
         return;
     }
-    let at = place - made.fixed;
+    let at = offset - made.fixed;
     let four = &mut parts.groups[at..at + 4];
     let count = number(four) as u32;
     four.copy_from_slice(&other_count(dice, count).to_be_bytes());

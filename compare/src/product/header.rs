@@ -263,11 +263,11 @@ fn equal(one: &str, other: usize) -> String {
     format!("_Static_assert({one} == {other}, \"{one}\");\n")
 }
 
-/// C's assertions about a field: its place, its size and its type.
-fn field<S: InC, T: InC>(field: &str, place: usize, _reach: fn(&S) -> &T) -> String {
+/// C's assertions about a field: its offset, its size and its type.
+fn field<S: InC, T: InC>(field: &str, offset: usize, _reach: fn(&S) -> &T) -> String {
     let (owner, name) = (S::name(), T::name());
     let held = format!("(({owner} *)0)->{field}");
-    let mut lines = equal(&format!("offsetof({owner}, {field})"), place);
+    let mut lines = equal(&format!("offsetof({owner}, {field})"), offset);
     lines += &equal(&format!("sizeof({held})"), size_of::<T>());
     if !name.is_empty() {
         let part = format!("&{held}{}", T::PART);
@@ -314,7 +314,7 @@ pub fn structs() -> String {
         GroupAnswer = GroupAnswer { answer, stock_number, switch_type, yes_no, texts }
         Entry = Entry { says, characters, level, size, order_count, shown }
         EntryAnswer = EntryAnswer { answer, entry }
-        Cursor = Cursor { place, left }
+        Cursor = Cursor { offset, left }
         StepAnswer = StepAnswer { answer, entry, next }
         QuantityAnswer = QuantityAnswer { answer, quantity }
         Tracker = Tracker { count, numbers, highest, ended, counts, first, last }

@@ -2,7 +2,7 @@
 //! stepping cursor.
 
 use super::layout::{layout, width, Layout, INDEX};
-use super::record::{characters, group_end, group_in_range, number, place_of, shown_count, two};
+use super::record::{characters, group_end, group_in_range, number, offset_of, shown_count, two};
 use super::rules::Rules;
 use crate::receiver::{Cursor, Entry, Found, PriceAnswer, Says, StepAnswer};
 
@@ -11,10 +11,10 @@ pub fn entry(rules: &Rules, kind: u32, body: &[u8], position: u32) -> Found<Entr
     let Some(layout) = layout(kind) else {
         return Found::NoSuchEntry;
     };
-    match entry_place(rules, layout, body, position) {
+    match entry_offset(rules, layout, body, position) {
         Found::Refused(refusal) => Found::Refused(refusal),
         Found::NoSuchEntry => Found::NoSuchEntry,
-        Found::Found(place) => Found::Found(entry_at(rules, layout, &body[place..])),
+        Found::Found(offset) => Found::Found(entry_at(rules, layout, &body[offset..])),
     }
 }
 
@@ -24,21 +24,21 @@ pub fn quantity(rules: &Rules, kind: u32, body: &[u8], entry: u32, position: u32
     let Some(layout) = layout(kind) else {
         return Found::NoSuchEntry;
     };
-    let place = match entry_place(rules, layout, body, entry) {
+    let offset = match entry_offset(rules, layout, body, entry) {
         Found::Refused(refusal) => return Found::Refused(refusal),
         Found::NoSuchEntry => return Found::NoSuchEntry,
-        Found::Found(place) => place,
+        Found::Found(offset) => offset,
     };
-    if position >= shown_count(layout, body, place) {
+    if position >= shown_count(layout, body, offset) {
         return Found::NoSuchEntry;
     }
-    let from = place + width(layout.group) + 8 * position as usize;
+    let from = offset + width(layout.group) + 8 * position as usize;
     Found::Found(number(&body[from..from + 8]))
 }
 
-/// The place of an entry by position. A type without entries has none.
-fn entry_place(rules: &Rules, layout: &Layout, body: &[u8], position: u32) -> Found<usize> {
-    match place_of(rules, layout, body, position) {
+/// The offset of an entry by position. A type without entries has none.
+fn entry_offset(rules: &Rules, layout: &Layout, body: &[u8], position: u32) -> Found<usize> {
+    match offset_of(rules, layout, body, position) {
         Found::Found(_) if !layout.has_entries() => Found::NoSuchEntry,
         answer => answer,
     }
@@ -52,11 +52,11 @@ pub fn start(kind: u32, body: &[u8]) -> Cursor {
             let bytes = &body[..body.len().min(fixed)];
             let count = bytes.get(fixed - 4..).unwrap_or(&[]);
             Cursor {
-                place: fixed,
+                offset: fixed,
                 left: number(count) as u32,
             }
         }
-        _ => Cursor { place: 0, left: 0 },
+        _ => Cursor { offset: 0, left: 0 },
     }
 }
 
@@ -67,7 +67,7 @@ pub fn step(rules: &Rules, kind: u32, body: &[u8], cursor: Cursor) -> StepAnswer
         Found::Found((entry, end)) => StepAnswer {
             entry: Found::Found(entry),
             next: Cursor {
-                place: end,
+                offset: end,
                 left: cursor.left - 1,
             },
         },
@@ -97,7 +97,7 @@ pub fn give_price(found: Found<Entry>, lent: &mut i64) -> PriceAnswer {
     }
 }
 
-/// The entry at a cursor and the place behind it.
+/// The entry at a cursor and the offset behind it.
 fn entry_at_cursor(rules: &Rules, kind: u32, body: &[u8], cursor: Cursor) -> Found<(Entry, usize)> {
     let Some(layout) = layout(kind) else {
         return Found::NoSuchEntry;
@@ -105,22 +105,22 @@ fn entry_at_cursor(rules: &Rules, kind: u32, body: &[u8], cursor: Cursor) -> Fou
     if !layout.has_entries() || cursor.left == 0 {
         return Found::NoSuchEntry;
     }
-    match judged_entry(rules, layout, body, cursor.place) {
+    match judged_entry(rules, layout, body, cursor.offset) {
         Err(refusal) => Found::Refused(refusal),
         Ok(entry) => Found::Found(entry),
     }
 }
 
-/// The entry at a place and the place behind it: 4, then 5, for this entry
+/// The entry at an offset and the offset behind it: 4, then 5, for this entry
 /// and its shown quantities.
 fn judged_entry(
     rules: &Rules,
     layout: &Layout,
     body: &[u8],
-    place: usize,
+    offset: usize,
 ) -> Result<(Entry, usize), u32> {
-    let end = group_end(layout, body, place)?;
-    let bytes = &body[place..end];
+    let end = group_end(layout, body, offset)?;
+    let bytes = &body[offset..end];
     group_in_range(rules, layout, bytes)?;
     Ok((entry_at(rules, layout, bytes), end))
 }

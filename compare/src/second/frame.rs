@@ -47,9 +47,9 @@ pub fn checksum(bytes: &[u8]) -> u32 {
     (sum % 256) as u32
 }
 
-/// The four bytes at a place as a big-endian number.
-pub fn four(bytes: &[u8], place: usize) -> u32 {
-    bytes[place..place + 4]
+/// The four bytes at an offset as a big-endian number.
+pub fn four(bytes: &[u8], offset: usize) -> u32 {
+    bytes[offset..offset + 4]
         .iter()
         .fold(0, |number, byte| number * 256 + u32::from(*byte))
 }

@@ -40,24 +40,24 @@ pub fn count(layout: &Layout, body: &[u8]) -> u32 {
     four(body, layout.fixed() - 4)
 }
 
-/// The place behind so many groups; 4 where there are too few bytes.
+/// The offset behind so many groups; 4 where there are too few bytes.
 pub fn groups_end(layout: &Layout, bytes: &[u8], from: usize, count: u32) -> Result<usize, u32> {
-    let mut place = from;
+    let mut offset = from;
     for _ in 0..count {
-        place = group_end(layout, bytes, place)?;
+        offset = group_end(layout, bytes, offset)?;
     }
-    Ok(place)
+    Ok(offset)
 }
 
-/// The place behind the group at a place, its shown quantities included; 4
+/// The offset behind the group at an offset, its shown quantities included; 4
 /// where there are too few bytes.
-pub fn group_end(layout: &Layout, bytes: &[u8], place: usize) -> Result<usize, u32> {
+pub fn group_end(layout: &Layout, bytes: &[u8], offset: usize) -> Result<usize, u32> {
     let length = bytes.len() as u128;
-    let fields_end = place as u128 + width(layout.group) as u128;
+    let fields_end = offset as u128 + width(layout.group) as u128;
     if fields_end > length {
         return Err(4);
     }
-    let shown = shown_count(layout, bytes, place);
+    let shown = shown_count(layout, bytes, offset);
     let end = fields_end + 8 * u128::from(shown);
     if end > length {
         return Err(4);
@@ -65,12 +65,12 @@ pub fn group_end(layout: &Layout, bytes: &[u8], place: usize) -> Result<usize, u
     Ok(end as usize)
 }
 
-/// The shown count of the group at a place; 0 in a layout without.
-pub fn shown_count(layout: &Layout, bytes: &[u8], place: usize) -> u32 {
+/// The shown count of the group at an offset; 0 in a layout without.
+pub fn shown_count(layout: &Layout, bytes: &[u8], offset: usize) -> u32 {
     if !layout.shown {
         return 0;
     }
-    four(bytes, place + width(layout.group) - 4)
+    four(bytes, offset + width(layout.group) - 4)
 }
 
 /// 5 if a group has a field out of range.
@@ -81,11 +81,11 @@ pub fn groups_in_range(
     from: usize,
     count: u32,
 ) -> Result<(), u32> {
-    let mut place = from;
+    let mut offset = from;
     for _ in 0..count {
-        let end = group_end(layout, bytes, place)?;
-        group_in_range(rules, layout, &bytes[place..end])?;
-        place = end;
+        let end = group_end(layout, bytes, offset)?;
+        group_in_range(rules, layout, &bytes[offset..end])?;
+        offset = end;
     }
     Ok(())
 }
@@ -102,11 +102,11 @@ pub fn group_in_range(rules: &Rules, layout: &Layout, group: &[u8]) -> Result<()
 
 /// 5 if one of the fields is out of range.
 fn fields_in_range(rules: &Rules, fields: &[Meaning], bytes: &[u8]) -> Result<(), u32> {
-    let mut place = 0;
+    let mut offset = 0;
     for field in fields {
-        let end = place + wide(*field);
-        field_in_range(rules, *field, &bytes[place..end])?;
-        place = end;
+        let end = offset + wide(*field);
+        field_in_range(rules, *field, &bytes[offset..end])?;
+        offset = end;
     }
     Ok(())
 }
@@ -134,10 +134,10 @@ fn record(layout: &Layout, body: &[u8]) -> Record {
         numbers: [0; NUMBERS],
         texts: [0; TEXTS],
     };
-    let (mut place, mut numbers, mut texts) = (0, 0, 0);
+    let (mut offset, mut numbers, mut texts) = (0, 0, 0);
     for field in layout.fields {
         let width = wide(*field);
-        let bytes = &body[place..place + width];
+        let bytes = &body[offset..offset + width];
         if field.is_text() {
             record.texts[texts..texts + width].copy_from_slice(bytes);
             texts += width;
@@ -145,14 +145,14 @@ fn record(layout: &Layout, body: &[u8]) -> Record {
             record.numbers[numbers] = number(bytes);
             numbers += 1;
         }
-        place += width;
+        offset += width;
     }
     record
 }
 
-/// The place of a group by position: 4 and 5 for the whole body, then "no
+/// The offset of a group by position: 4 and 5 for the whole body, then "no
 /// such entry".
-pub fn place_of(rules: &Rules, layout: &Layout, body: &[u8], position: u32) -> Found<usize> {
+pub fn offset_of(rules: &Rules, layout: &Layout, body: &[u8], position: u32) -> Found<usize> {
     if let Err(refusal) = judge(rules, layout, body) {
         return Found::Refused(refusal);
     }
@@ -161,7 +161,7 @@ pub fn place_of(rules: &Rules, layout: &Layout, body: &[u8], position: u32) -> F
     }
     match groups_end(layout, body, layout.fixed(), position) {
         Err(refusal) => Found::Refused(refusal),
-        Ok(place) => Found::Found(place),
+        Ok(offset) => Found::Found(offset),
     }
 }
 
@@ -170,10 +170,10 @@ pub fn group(rules: &Rules, kind: u32, body: &[u8], position: u32) -> Found<Grou
     let Some(layout) = layout(kind) else {
         return Found::NoSuchEntry;
     };
-    match place_of(rules, layout, body, position) {
+    match offset_of(rules, layout, body, position) {
         Found::Refused(refusal) => Found::Refused(refusal),
         Found::NoSuchEntry => Found::NoSuchEntry,
-        Found::Found(place) => group_at(layout, &body[place..]),
+        Found::Found(offset) => group_at(layout, &body[offset..]),
     }
 }
 
@@ -193,9 +193,9 @@ fn group_at(layout: &Layout, bytes: &[u8]) -> Found<Group> {
     }
 }
 
-/// The two bytes at a place as a big-endian number.
-pub fn two(bytes: &[u8], place: usize) -> u16 {
-    u16::from(bytes[place]) * 256 + u16::from(bytes[place + 1])
+/// The two bytes at an offset as a big-endian number.
+pub fn two(bytes: &[u8], offset: usize) -> u16 {
+    u16::from(bytes[offset]) * 256 + u16::from(bytes[offset + 1])
 }
 
 /// Characters as an array.

@@ -85,10 +85,10 @@ fn numbers_in_range(rules: &Rules, layout: &Layout, draft: &Draft) -> Result<(),
 fn write_body(layout: &Layout, draft: &Draft, body: &mut [u8]) {
     let mut numbers = draft.numbers.iter();
     let mut texts = draft.texts;
-    let mut place = 0;
+    let mut offset = 0;
     for field in layout.fields {
         let width = wide(*field);
-        let target = &mut body[place..place + width];
+        let target = &mut body[offset..offset + width];
         if field.is_text() {
             let (text, rest) = texts.split_at(width);
             target.copy_from_slice(text);
@@ -97,7 +97,7 @@ fn write_body(layout: &Layout, draft: &Draft, body: &mut [u8]) {
             let number = numbers.next().expect("a number for each field");
             target.copy_from_slice(&number.to_be_bytes()[8 - width..]);
         }
-        place += width;
+        offset += width;
     }
-    body[place..].copy_from_slice(draft.groups);
+    body[offset..].copy_from_slice(draft.groups);
 }

@@ -200,7 +200,7 @@ fn cursor_steps_over_all_entries() {
         entry(b"0 ", 5, 6, 1, &[1, 2, 3]),
         entry(b"zz", 5, 6, 1, &[]),
     ]);
-    let cursor = |place, left| Cursor { place, left };
+    let cursor = |offset, left| Cursor { offset, left };
     let step = |at| second().step(SNAPSHOT, &body, at);
     assert_eq!(second().start(SNAPSHOT, &body), cursor(69, 2));
     let (one, two, end) = (
@@ -223,8 +223,8 @@ fn cursor_steps_over_all_entries() {
 #[test]
 fn made_up_cursors_are_answered() {
     let body = snapshot(&[entry(b"0 ", -1, 6, 1, &[]), entry(b"0 ", 5, -6, 1, &[])]);
-    let step = |place, left| {
-        let at = Cursor { place, left };
+    let step = |offset, left| {
+        let at = Cursor { offset, left };
         let answer = second().step(SNAPSHOT, &body, at);
         assert!(matches!(answer.entry, Found::Found(_)) || answer.next == at);
         answer.entry
@@ -240,7 +240,7 @@ fn made_up_cursors_are_answered() {
 fn a_start_judges_nothing() {
     let body = head(0x01020304);
     let start = |kind, length: usize| second().start(kind, &body[..length]);
-    let at = |place, left| Cursor { place, left };
+    let at = |offset, left| Cursor { offset, left };
     assert_eq!(start(SNAPSHOT, 69), at(69, 0x01020304));
     assert_eq!(start(INDEX, 68), at(69, 0x010203));
     assert_eq!(start(INDEX, 66), at(69, 0x01));
@@ -272,7 +272,7 @@ fn where_there_is_no_price_the_lent_number_stays() {
         let told = second().entry_price(SNAPSHOT, &body, position, &mut price);
         assert_eq!((told, price), (answer, left));
         let at = Cursor {
-            place: 69 + 32 * position as usize,
+            offset: 69 + 32 * position as usize,
             left: 5 - position,
         };
         let mut price = -7;

@@ -18,16 +18,16 @@ fn header() -> String {
 
 /// C's assertions that a struct has these texts, one behind the other.
 fn texts(owner: &str, fields: &[Field]) -> String {
-    let (mut lines, mut place) = (String::new(), 0);
+    let (mut lines, mut offset) = (String::new(), 0);
     for field in fields.iter().filter(|field| field.meaning.is_text()) {
         let (width, text) = (field.meaning.width(), field.name.replace(' ', "_"));
-        let start = format!("offsetof({owner}, texts) + {place}");
+        let start = format!("offsetof({owner}, texts) + {offset}");
         lines +=
             &format!("_Static_assert(offsetof({owner}, texts.{text}) == {start}, \"{text}\");\n");
         lines += &format!(
             "_Static_assert(sizeof((({owner} *)0)->texts.{text}) == {width}, \"{text}\");\n"
         );
-        place += width;
+        offset += width;
     }
     lines
 }

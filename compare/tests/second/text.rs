@@ -77,16 +77,16 @@ fn wire(layout: &Layout, record: &Record) -> Vec<u8> {
 
 /// Fields as `name value, name value`.
 fn listed(rules: &Rules, fields: &[Field], bytes: &[u8]) -> String {
-    let mut place = 0;
+    let mut at = 0;
     let mut parts = Vec::new();
     for field in fields {
-        let end = place + field.meaning.width();
+        let end = at + field.meaning.width();
         parts.push(format!(
             "{} {}",
             field.name,
-            value(rules, field.meaning, &bytes[place..end])
+            value(rules, field.meaning, &bytes[at..end])
         ));
-        place = end;
+        at = end;
     }
     parts.join(", ")
 }

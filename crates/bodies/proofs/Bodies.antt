@@ -19,7 +19,7 @@ use Rattle.record.specs.Record.{groupsAs}
 use Rattle.bodies.specs.Body.{Numbers, encode, body, bodyLength, textSize, stated, exact, numbersIn, allIn}
 use Rattle.bodies.proofs.Round.{round, length-encode, again}
 use Rattle.bodies.proofs.Numbers.{count-back, numbers-read, texts-read}
-use Rattle.bodies.proofs.Shift.{Counts, fit-shift, place-shift, groupRanges-shift}
+use Rattle.bodies.proofs.Shift.{Counts, fit-shift, offset-shift, groupRanges-shift}
 
 -- ---- which groups show quantities
 
@@ -67,7 +67,7 @@ same m {zs} ts gs g h =
       counted = e;
       there = rw (e, le-leb (groupsStart m) (length (a ++ gs)) (omega arith)) (ap (λ (x : ℕ). fit (group m) (a ++ gs) x k) p ∙ fit-shift a gs (group m) (counts m) 0 k);
       inside = rw (e, r .inside) (ap (λ (x : ℕ). numbersIn (fields m) zs && groupRanges (group m) (a ++ gs) x k) p ∙ rw (groupRanges-shift a gs (group m) (counts m) 0 k));
-      ends = rw e (ap (λ (x : ℕ). groupOffset (group m) (a ++ gs) x k) p ∙ place-shift a gs (group m) (counts m) 0 k ∙ rw n);
+      ends = rw e (ap (λ (x : ℕ). groupOffset (group m) (a ++ gs) x k) p ∙ offset-shift a gs (group m) (counts m) 0 k ∙ rw n);
       numbers = r .numbers;
       wording = r .wording;
       behind = drop-at a gs (groupsStart m) n;

@@ -53,7 +53,7 @@ fixed (sign h) =
 
 -- ---- what is encoded reads back
 
--- bytes from a place on read as numbers and texts, and are in range where the numbers are
+-- bytes from an offset on read as numbers and texts, and are in range where the numbers are
 pub record Back (l : List Kind) (zs : List ℤ) (ts s : List ℕ) (at : ℕ) : Type 0 where
   pub numbers : values l s at ≡ zs
   pub wording : texts l s at ≡ ts

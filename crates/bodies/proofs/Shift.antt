@@ -57,10 +57,10 @@ module _ (a s : List ℕ) where
     next-shift : (at : ℕ) → nextOffset g (a ++ s) (length a + at) ≡ length a + nextOffset g s at
     next-shift at = rw (shown-shift at) (omega arith)
 
-    pub place-shift : (at i : ℕ) → groupOffset g (a ++ s) (length a + at) i ≡ length a + groupOffset g s at i
+    pub offset-shift : (at i : ℕ) → groupOffset g (a ++ s) (length a + at) i ≡ length a + groupOffset g s at i
     unfolding groupOffset
-    place-shift at zero = refl
-    place-shift at (suc i) = rw (next-shift at) (place-shift (nextOffset g s at) i)
+    offset-shift at zero = refl
+    offset-shift at (suc i) = rw (next-shift at) (offset-shift (nextOffset g s at) i)
 
     pub fit-shift : (at k : ℕ) → fit g (a ++ s) (length a + at) k ≡ fit g s at k
     unfolding fit

@@ -15,7 +15,7 @@ use mir.Syntax.{w64}
 use mir.Val.{toZ, ofZ}
 use mir.Facts.{toZ-ofZ}
 use Rattle.wire.specs.Bytes.{digits, splice, putAt}
-use Rattle.wire.proofs.Place.{placed-fits, length-splice, splice-more}
+use Rattle.wire.proofs.PutAt.{put-fits, length-splice, splice-more}
 use Rattle.layout.specs.Kind.{Kind, text, Text, Form, unsigned, signed, written, form, width, characters}
 use Rattle.layout.specs.Layout.{Message, snapshot, index, volumeIndex, fields, size, textsBehind}
 use Rattle.bodies.specs.Body.{numbersBehind, fieldBytes, encode, textWidth, textSize}
@@ -27,7 +27,7 @@ texts-from (unsigned w) ts p = let e : p + 0 ≡ p = omega arith in rw e
 texts-from signed ts p = let e : p + 0 ≡ p = omega arith in rw e
 texts-from (written t) ts p = drop-drop (characters t) p ts
 
--- z is y with the fields of a layout stored from place n on, their texts from place p on
+-- z is y with the fields of a layout stored from offset n on, their texts from offset p on
 pub record Stored (l : List Kind) (zs : List ℤ) (ts : List ℕ) (p : ℕ) (y z : List ℕ) (n : ℕ) : Type 0 where
   pub is : n + size l ≤ length y → length (drop p ts) ≡ textSize l → z ≡ splice y n (encode l zs (drop p ts))
 
@@ -52,7 +52,7 @@ field {k} {ks} {zs} {ts} {p} {y} {x} {z} {n} e r =
           ap length (sym f) ∙ length-behind (form k) (drop p ts) ∙ omega arith
           in
           let l : length (encode ks s (drop (p + textWidth (form k)) ts)) ≡ size ks = length-encode ks s (drop (p + textWidth (form k)) ts) u in
-          let i : x ≡ splice y n b = e ∙ placed-fits y n b (omega arith) in
+          let i : x ≡ splice y n b = e ∙ put-fits y n b (omega arith) in
           let j : length x ≡ length y = ap length i ∙ length-splice y n b (omega arith) in
           r .is (omega arith) u
           ∙ rw (i, f, ← m)
@@ -118,7 +118,7 @@ words us {ks} {zs} {ts} {p} {y} {x} {z} {n} e r =
           ap length (sym d) ∙ length-drop (wide us) (drop p ts) ∙ omega arith
           in
           let l : length c ≡ size ks = length-encode ks zs (drop (p + wide us) ts) u in
-          let i : x ≡ splice y n b = e ∙ placed-fits y n b (omega arith) in
+          let i : x ≡ splice y n b = e ∙ put-fits y n b (omega arith) in
           let j : length x ≡ length y = ap length i ∙ length-splice y n b (omega arith) in
           let f : b ++ c ≡ encode (texts-then us ks) zs (drop p ts) =
           ap (λ (q : List ℕ). b ++ encode ks zs q) (sym d) ∙ sym (encode-texts us ks zs (drop p ts))

@@ -69,14 +69,14 @@ fn wide(b: u8) -> u64 {
 
 // The bytes of an output, as numbers.
 fn numbers(lines: &mut [u8], at: usize, out: &[u8]) -> usize {
-    let mut place = at;
+    let mut offset = at;
     let mut i: usize = 0;
     while i < out.len() {
-        let a = text::word(lines, place, b" ");
-        place = text::decimal(lines, a, wide(out[i]));
+        let a = text::word(lines, offset, b" ");
+        offset = text::decimal(lines, a, wide(out[i]));
         i += 1;
     }
-    place
+    offset
 }
 
 // Case i: its name, the answer, and what the output holds then.
@@ -95,11 +95,11 @@ request, none missing, short
 request, output of 55 bytes
 request, channel 2012, short
 ";
-    let mut place = at;
+    let mut offset = at;
     let mut i: u64 = 0;
     while i < 5 {
-        place = line(lines, place, names, i);
+        offset = line(lines, offset, names, i);
         i += 1;
     }
-    place
+    offset
 }

@@ -140,11 +140,11 @@ statistics, 1,092 groups, output short too
 order, output of 62 bytes
 order, output of 63 bytes
 ";
-    let mut place = at;
+    let mut offset = at;
     let mut i: u64 = 0;
     while i < 11 {
-        place = line(lines, place, names, i);
+        offset = line(lines, offset, names, i);
         i += 1;
     }
-    place
+    offset
 }

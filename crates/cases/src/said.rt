@@ -23,7 +23,7 @@ pub fn refused(number: u64) -> Said {
     Said { word: 6, number }
 }
 
-// Where the line ends that a place of a table stands in.
+// Where the line ends that an offset of a table stands in.
 fn line_end(table: &[u8], from: usize) -> usize
     requires { ⌜ from ≤ length (now table) ⌝ }
     ensures { λ r. ⌜ (from ≤ r) × (r ≤ length (now (table .entry))) ⌝ }

@@ -69,13 +69,13 @@ ticks 2, 4, up to 64, then 1
 then 66
 ";
     let mut t = evens();
-    let mut place = at;
+    let mut offset = at;
     let mut i: u64 = 0;
     while i < 7 {
         let r = arrival(t, i);
-        place = line(lines, place, names, i, r);
+        offset = line(lines, offset, names, i, r);
         t = r.next;
         i += 1;
     }
-    place
+    offset
 }

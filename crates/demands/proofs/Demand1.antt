@@ -19,7 +19,7 @@ use Rattle.frame.specs.declared.Frame.{Frame}
 use Rattle.frame.proofs.Framing as frame-laws
 use Rattle.layout.specs.Layout.{Listed, listed, unlisted, named, Behind, nothing, groups, entries, Entries, entryGroup, behind}
 use Rattle.layout.specs.Group.{groupsStart, countAt, shown, groupOffset, nextOffset, fit, groupRanges, judgeGroups}
-use Rattle.layout.proofs.Walk.{and-both, ahead, place-beyond}
+use Rattle.layout.proofs.Walk.{and-both, ahead, offset-beyond}
 use Rattle.record.specs.Asked.{WithTexts, onceAccepted, Asked, found, noSuchEntry, below, judgeListed, judge}
 use Rattle.record.specs.Record as record-of
 use Rattle.record.specs.Record.{readListed, readBody, readFrame, groupIn, groupAs, groupListed, groupOf}
@@ -191,19 +191,19 @@ quantity-asked type b i j =
 
 -- a step
 module _ (e : Entries) (b : List ℕ) (c : At) (some : 0 < c .left) where
-  short : fit (entryGroup e) b (c .place) 1 ≡ false → length b < nextOffset (entryGroup e) b (c .place)
+  short : fit (entryGroup e) b (c .offset) 1 ≡ false → length b < nextOffset (entryGroup e) b (c .offset)
   unfolding groupOffset
-  short f = place-beyond (entryGroup e) b (c .place) 1 f
+  short f = offset-beyond (entryGroup e) b (c .offset) 1 f
 
   by-entry :
-      Judged (notItsLayout if EntryLacks (entries e) b c ∷ outOfRange if EntryStrays (entries e) b c ∷ []) (judgeGroups (entryGroup e) b (c .place) 1)
+      Judged (notItsLayout if EntryLacks (entries e) b c ∷ outOfRange if EntryStrays (entries e) b c ∷ []) (judgeGroups (entryGroup e) b (c .offset) 1)
   unfolding judgeGroups
   by-entry =
-      tested (not (fit (entryGroup e) b (c .place) 1)) (λ f. (some, short (not-true _ f)))
-      (λ f k. above (ahead (entryGroup e) b (c .place) 1 (omega arith) (not-false _ f) .whole) (k .1))
+      tested (not (fit (entryGroup e) b (c .offset) 1)) (λ f. (some, short (not-true _ f)))
+      (λ f k. above (ahead (entryGroup e) b (c .offset) 1 (omega arith) (not-false _ f) .whole) (k .1))
       (λ f.
-      tested (not (groupRanges (entryGroup e) b (c .place) 1)) (λ g. (some, only-out (entryGroup e) b (c .place) (not-true _ g)))
-      (λ g k. only-in (entryGroup e) b (c .place) (not-false _ g) (k .1)) (λ g. success))
+      tested (not (groupRanges (entryGroup e) b (c .offset) 1)) (λ g. (some, only-out (entryGroup e) b (c .offset) (not-true _ g)))
+      (λ g k. only-in (entryGroup e) b (c .offset) (not-false _ g) (k .1)) (λ g. success))
 
 step-judged :
     (h : Behind) (b : List ℕ) (c : At) → Judged (notItsLayout if EntryLacks h b c ∷ outOfRange if EntryStrays h b c ∷ []) (stepIn h b c)
@@ -217,7 +217,7 @@ step-judged (entries e) b c = go (eqb (c .left) 0) refl
     go true f =
         let l = eqb-true (c .left) 0 f in
         rw f (later (λ (k : EntryLacks (entries e) b c). omega (arith, l, k .0)) (later (λ (k : EntryStrays (entries e) b c). omega (arith, l, k .0)) success))
-    go false f = rw f (alike (then-alike (judgeGroups (entryGroup e) b (c .place) 1) _) (by-entry e b c (omega (arith, eqb-false (c .left) 0 f))))
+    go false f = rw f (alike (then-alike (judgeGroups (entryGroup e) b (c .offset) 1) _) (by-entry e b c (omega (arith, eqb-false (c .left) 0 f))))
 
 step-none : (h : Behind) (b : List ℕ) (c : At) (x : Asked Stepped) → stepIn h b c ≡ accepted x → (x ≡ noSuchEntry) ↔ (leftIn h c ≡ 0)
 unfolding guard
@@ -228,7 +228,7 @@ step-none (entries e) b c x f = go (eqb (c .left) 0) refl
     go : (t : Bool) → eqb (c .left) 0 ≡ t → (x ≡ noSuchEntry) ↔ (c .left ≡ 0)
     go true g = let a : accepted noSuchEntry ≡ accepted x = rw g at f in (λ k. eqb-true (c .left) 0 g, λ k. cc)
     go false g =
-        let a = then-value (judgeGroups (entryGroup e) b (c .place) 1) _ x (rw g at f) in
+        let a = then-value (judgeGroups (entryGroup e) b (c .offset) 1) _ x (rw g at f) in
         (λ k. let z : _≡_ {A = ℕ} 0 1 = cc in absurd (omega arith), λ k. absurd (eqb-false (c .left) 0 g k))
 
 step-of : (l : Listed) (b : List ℕ) (c : At) → step l b c ≡ stepIn (behindOf l) b c

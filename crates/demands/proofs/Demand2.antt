@@ -20,7 +20,7 @@ use Rattle.frame.specs.declared.Frame.{Frame}
 use Rattle.frame.proofs.Framing as frame-laws
 use Rattle.layout.specs.Layout.{Message, heartbeat, channelHeartbeat, resend, statistics, securityStatus, snapshot, index, volumeIndex, order, trade, streams, switches, indexEntries, snapshotEntries, Behind, nothing, groups, entries, behind, Entries, entryGroup, fields, typeNumber, Listed, listed, unlisted as no-type, named, size, values, texts}
 use Rattle.layout.specs.Group.{nextOffset, groupOffset, count, needs, judgeBody, judgeGroups}
-use Rattle.layout.proofs.Walk.{place-next, place-flat}
+use Rattle.layout.proofs.Walk.{offset-next, offset-flat}
 use Rattle.record.specs.Asked.{WithTexts, withTexts, onceAccepted, Asked, found, noSuchEntry, judgeListed as judgedBody}
 use Rattle.record.specs.Record.{Reading, known, unknown, readAs, readListed, readBody, readBodyOf, readFrame, groupAs, groupListed, groupOf, groupsAs, groupsOf}
 use Rattle.record.proofs.Choice.{named-as}
@@ -61,17 +61,17 @@ unlisted s b f x h c p q =
 shown-ends : (b : List ℕ) (k : ℕ) → groupOffset snapshotEntries b 69 k ≡ 69 + 32 * k + 8 * shownSum b k
 unfolding groupOffset size
 shown-ends b zero = refl
-shown-ends b (suc k) = omega (arith, place-next snapshotEntries b 69 k, shown-ends b k)
+shown-ends b (suc k) = omega (arith, offset-next snapshotEntries b 69 k, shown-ends b k)
 
 needs-bytes : (m : Message) (b : List ℕ) → needs m b ≡ bytesOf m b
 unfolding groupOffset size
 needs-bytes heartbeat b = refl
 needs-bytes channelHeartbeat b = refl
 needs-bytes resend b = refl
-needs-bytes statistics b = place-flat streams b refl 14 (count statistics b)
-needs-bytes securityStatus b = place-flat switches b refl 34 (count securityStatus b)
+needs-bytes statistics b = offset-flat streams b refl 14 (count statistics b)
+needs-bytes securityStatus b = offset-flat switches b refl 34 (count securityStatus b)
 needs-bytes snapshot b = shown-ends b (count snapshot b)
-needs-bytes index b = place-flat indexEntries b refl 69 (count index b)
+needs-bytes index b = offset-flat indexEntries b refl 69 (count index b)
 needs-bytes volumeIndex b = refl
 needs-bytes order b = refl
 needs-bytes trade b = refl
@@ -137,14 +137,14 @@ judge-longer no-type b t k = refl
 -- a step where an entry is left
 abbrev stepAt : Entries → List ℕ → At → Answer (Asked Stepped)
 stepAt e s c =
-    andThen (judgeGroups (entryGroup e) s (c .place) 1)
-    (λ (u : Unit). accepted (found (record { entry = entryAt e s (c .place); onward = record { place = nextOffset (entryGroup e) s (c .place); left = c .left - 1 } })))
+    andThen (judgeGroups (entryGroup e) s (c .offset) 1)
+    (λ (u : Unit). accepted (found (record { entry = entryAt e s (c .offset); onward = record { offset = nextOffset (entryGroup e) s (c .offset); left = c .left - 1 } })))
 
 entry-step : (e : Entries) (b t : List ℕ) (c : At) → Accepted (stepAt e b c) → stepAt e (b ++ t) c ≡ stepAt e b c
 unfolding andThen
 entry-step e b t c k =
-    let a = then-judged (judgeGroups (entryGroup e) b (c .place) 1) _ k in
-    let n = same-entry e b t (c .place) a in
+    let a = then-judged (judgeGroups (entryGroup e) b (c .offset) 1) _ k in
+    let n = same-entry e b t (c .offset) a in
     rw (n .judged, a, n .entry, n .behind)
 
 step-behind : (h : Behind) (b t : List ℕ) (c : At) → Accepted (stepIn h b c) → stepIn h (b ++ t) c ≡ stepIn h b c

@@ -32,17 +32,19 @@ use Rattle.gaps.specs.Channel.{ArrivalSaid, new, late, duplicate, heard}
 use Rattle.tracker.specs.Arrived.{Arrival, Outcome, arrive, arrivalSaid}
 use Rattle.tracker.specs.Request as asking
 use Rattle.tracker.proofs.Unique as tracker
-use Rattle.orizhgum.specs.Numbers.{plain, unknownNumber, answerNumber, frameAnswer}
+use Rattle.wire.specs.Number.{plain, unknownNumber, answerNumber}
+use Rattle.orizhgum.specs.Framed.{frameAnswer}
 use Rattle.orizhgum.specs.Records.{judgedNumber, RecordAnswer, answerAs, recordAnswer}
 use Rattle.orizhgum.specs.Groups.{groupWith, groupAnswer}
-use Rattle.orizhgum.specs.Entries.{Price, here, none, priceOf, priceNumber, priceLeft, pricing, pricedLeft, entryAnswer, quantityAnswer, stepAnswer}
+use Rattle.prices.specs.Entries.{Price, here, none, priceOf, priceNumber, priceLeft, pricing, pricedLeft, entryAnswer, stepAnswer}
+use Rattle.orizhgum.specs.Quantity.{quantityAnswer}
 use Rattle.orizhgum.specs.Arrivals.{Arrived, saidNumber, startAnswer, arrivalAnswer}
 use Rattle.orizhgum.specs.Written.{writeAnswer}
 use Rattle.orizhgum.specs.Requested.{requestAnswer}
 use Rattle.orizhgum.specs.declared.FrameAnswer.{FrameAnswer}
 use Rattle.orizhgum.specs.declared.groups.Grouped.{Grouped}
-use Rattle.orizhgum.specs.declared.entry.EntryAnswer.{EntryAnswer}
-use Rattle.orizhgum.specs.declared.entry.StepAnswer.{StepAnswer}
+use Rattle.prices.specs.declared.entry.EntryAnswer.{EntryAnswer}
+use Rattle.prices.specs.declared.entry.StepAnswer.{StepAnswer}
 use Rattle.orizhgum.specs.declared.entry.QuantityAnswer.{QuantityAnswer}
 use Rattle.orizhgum.specs.declared.arrivals.StartAnswer.{StartAnswer}
 use Rattle.orizhgum.specs.declared.written.WriteAnswer.{WriteAnswer}

@@ -19,7 +19,7 @@ use Rattle.frame.proofs.Framing.{Reading, no-header, too-long, cut, wrong-sum, 
 use Rattle.layout.specs.Layout.{Message, fields, Listed, listed, unlisted}
 use Rattle.layout.specs.Group as group
 use Rattle.layout.specs.Group.{groupOffset, fit, inRange, judgeBody, even}
-use Rattle.layout.proofs.Walk.{and-both, place-beyond, needs-more, needs-no-more}
+use Rattle.layout.proofs.Walk.{and-both, offset-beyond, needs-more, needs-no-more}
 use Rattle.record.specs.Asked.{judgeListed}
 use Rattle.record.specs.Record as record-of
 use Rattle.record.specs.Record.{known, unknown}
@@ -122,7 +122,7 @@ module _ (m : Message) (zs : List ℤ) (ts gs : List ℕ) where
   even-by : (b : Bool) → fit (group.group m) gs 0 (stated m zs) ≡ b → length gs ≡ groupOffset (group.group m) gs 0 (stated m zs) → even (group.group m) gs (stated m zs) ≡ true
   unfolding even
   even-by true e f = rw (e, eq-eqb _ _ (sym f))
-  even-by false e f = absurd (omega (arith, place-beyond (group.group m) gs 0 (stated m zs) e, f))
+  even-by false e f = absurd (omega (arith, offset-beyond (group.group m) gs 0 (stated m zs) e, f))
 
   exactly-yes : exact m zs ts gs ≡ true → Exactly m zs ts gs
   unfolding even

@@ -23,7 +23,7 @@ use Rattle.entries.specs.Entry.{entryAt, entryIn, quantityAt, quantityIn, ofFou
 pred-is : (k : ℕ) → suc k - 1 ≡ k
 pred-is k = omega arith
 
--- ---- fields and groups from a place on
+-- ---- fields and groups from an offset on
 
 module _ (s t : List ℕ) where
   ranges-tail : (l : List Kind) (at : ℕ) → at + size l ≤ length s → ranges l (s ++ t) at ≡ ranges l s at
@@ -71,12 +71,12 @@ module _ (s t : List ℕ) where
     next-tail : (at : ℕ) → at + size (g .fields) ≤ length s → nextOffset g (s ++ t) at ≡ nextOffset g s at
     next-tail at h = rw (shown-tail at h)
 
-    place-tail : (at i : ℕ) → fit g s at i ≡ true → groupOffset g (s ++ t) at i ≡ groupOffset g s at i
+    offset-tail : (at i : ℕ) → fit g s at i ≡ true → groupOffset g (s ++ t) at i ≡ groupOffset g s at i
     unfolding groupOffset
-    place-tail at zero e = refl
-    place-tail at (suc i) e =
+    offset-tail at zero e = refl
+    offset-tail at (suc i) e =
         let n = ahead g s at (suc i) (omega arith) e in
-        rw (next-tail at (n .fixed)) (place-tail (nextOffset g s at) i (rw (pred-is i) at (n .rest)))
+        rw (next-tail at (n .fixed)) (offset-tail (nextOffset g s at) i (rw (pred-is i) at (n .rest)))
 
     fit-tail : (at k : ℕ) → fit g s at k ≡ true → fit g (s ++ t) at k ≡ true
     unfolding fit
@@ -149,8 +149,8 @@ module _ (s t : List ℕ) (end : ℕ) where
     there : (i : ℕ) → i < countAt h end s → groupOffset (groupBehind h) s end i + size (groupBehind h .fields) ≤ length s
     there i k = fields-there (groupBehind h) s end i (countAt h end s) k f
 
-    placed : (i : ℕ) → i < countAt h end s → groupOffset (groupBehind h) (s ++ t) end i ≡ groupOffset (groupBehind h) s end i
-    placed i k = place-tail s t (groupBehind h) c end i (fits i k)
+    stands : (i : ℕ) → i < countAt h end s → groupOffset (groupBehind h) (s ++ t) end i ≡ groupOffset (groupBehind h) s end i
+    stands i k = offset-tail s t (groupBehind h) c end i (fits i k)
 
 module _ (m : Message) (s t : List ℕ) (j : judgeBody m s ≡ accepted tt) where
   pub judged-tail : judgeBody m (s ++ t) ≡ accepted tt
@@ -186,7 +186,7 @@ module _ (s t : List ℕ) (end i : ℕ) where
   group-tail (groups g) c n f =
       rw n
       (below-same i (countAt (groups g) end s) _ _
-      (λ k. rw (placed s t end (groups g) c n f i k, values-tail s t (g .fields) (groupOffset g s end i) (there s t end (groups g) c n f i k))))
+      (λ k. rw (stands s t end (groups g) c n f i k, values-tail s t (g .fields) (groupOffset g s end i) (there s t end (groups g) c n f i k))))
   group-tail (entries e) c n f = refl
 
   words-by :
@@ -195,7 +195,7 @@ module _ (s t : List ℕ) (end i : ℕ) where
       groupTexts (groups g) end (s ++ t) i (cond b (found vs) noSuchEntry) ≡ groupTexts (groups g) end s i (cond b (found vs) noSuchEntry)
   words-by g c n f true b vs =
       let k = ltb-true i (countAt (groups g) end s) b in
-      rw (placed s t end (groups g) c n f i k, texts-tail s t (g .fields) (groupOffset g s end i) (there s t end (groups g) c n f i k))
+      rw (stands s t end (groups g) c n f i k, texts-tail s t (g .fields) (groupOffset g s end i) (there s t end (groups g) c n f i k))
   words-by g c n f false b vs = refl
 
   words-tail :
@@ -214,7 +214,7 @@ module _ (s t : List ℕ) (end i : ℕ) where
   entries-tail (entries e) c n f =
       rw n
       (below-same i (countAt (entries e) end s) _ _
-      (λ k. rw (placed s t end (entries e) c n f i k) (entry-tail s t end e (groupOffset (entryGroup e) s end i) (there s t end (entries e) c n f i k))))
+      (λ k. rw (stands s t end (entries e) c n f i k) (entry-tail s t end e (groupOffset (entryGroup e) s end i) (there s t end (entries e) c n f i k))))
 
   -- a shown quantity of an entry that is there
   quantity-there :
@@ -239,7 +239,7 @@ module _ (s t : List ℕ) (end i : ℕ) where
       (λ b.
       let k = ltb-true i (countAt (entries e) end s) b in
       let p = ahead (entryGroup e) s (groupOffset (entryGroup e) s end i) (countAt (entries e) end s - i) (omega arith) (fit-there (entryGroup e) s end i (countAt (entries e) end s) k f) in
-      rw (placed s t end (entries e) c n f i k) (quantity-there (entryGroup e) c j (groupOffset (entryGroup e) s end i) (p .fixed) (p .whole))))
+      rw (stands s t end (entries e) c n f i k) (quantity-there (entryGroup e) c j (groupOffset (entryGroup e) s end i) (p .fixed) (p .whole))))
 
 module _ (m : Message) (s t : List ℕ) (a : judgeBody m s ≡ accepted tt) (i : ℕ) where
   pub group-as-tail : groupAs m (s ++ t) i ≡ groupAs m s i

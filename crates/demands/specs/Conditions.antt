@@ -116,12 +116,12 @@ entriesLeft type c = leftIn (behindOf (named type)) c
 abbrev pub EntryLacks : Behind → List ℕ → At → Type 0
 EntryLacks nothing b c = ⊥
 EntryLacks (groups g) b c = ⊥
-EntryLacks (entries e) b c = (0 < c .left) × (length b < nextOffset (entryGroup e) b (c .place))
+EntryLacks (entries e) b c = (0 < c .left) × (length b < nextOffset (entryGroup e) b (c .offset))
 
 abbrev pub EntryStrays : Behind → List ℕ → At → Type 0
 EntryStrays nothing b c = ⊥
 EntryStrays (groups g) b c = ⊥
-EntryStrays (entries e) b c = (0 < c .left) × GroupOut (entryGroup e) b (c .place)
+EntryStrays (entries e) b c = (0 < c .left) × GroupOut (entryGroup e) b (c .offset)
 
 -- ---- what the writer takes
 

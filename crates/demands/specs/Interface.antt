@@ -36,17 +36,19 @@ use Rattle.tracker.specs.declared.Requested.{Requested}
 use Rattle.tracker.specs.SetUp as starting
 use Rattle.tracker.specs.Arrived.{Arrival, arrivalSaid}
 use Rattle.tracker.specs.Request as asking
-use Rattle.orizhgum.specs.Numbers.{plain, unknownNumber, answerNumber, frameAnswer}
+use Rattle.wire.specs.Number.{plain, unknownNumber, answerNumber}
+use Rattle.orizhgum.specs.Framed.{frameAnswer}
 use Rattle.orizhgum.specs.Records.{RecordAnswer, answerAs, recordIn}
 use Rattle.orizhgum.specs.Groups.{groupAnswer}
-use Rattle.orizhgum.specs.Entries.{entryAnswer, quantityAnswer, stepAnswer, pricing, pricedLeft}
+use Rattle.prices.specs.Entries.{entryAnswer, stepAnswer, pricing, pricedLeft}
+use Rattle.orizhgum.specs.Quantity.{quantityAnswer}
 use Rattle.orizhgum.specs.Arrivals.{saidNumber, startAnswer}
 use Rattle.orizhgum.specs.Written.{writeAnswer}
 use Rattle.orizhgum.specs.Requested.{requestAnswer}
 use Rattle.orizhgum.specs.declared.FrameAnswer.{FrameAnswer}
 use Rattle.orizhgum.specs.declared.groups.Grouped.{Grouped}
-use Rattle.orizhgum.specs.declared.entry.EntryAnswer.{EntryAnswer}
-use Rattle.orizhgum.specs.declared.entry.StepAnswer.{StepAnswer}
+use Rattle.prices.specs.declared.entry.EntryAnswer.{EntryAnswer}
+use Rattle.prices.specs.declared.entry.StepAnswer.{StepAnswer}
 use Rattle.orizhgum.specs.declared.entry.QuantityAnswer.{QuantityAnswer}
 use Rattle.orizhgum.specs.declared.arrivals.StartAnswer.{StartAnswer}
 use Rattle.orizhgum.specs.declared.written.WriteAnswer.{WriteAnswer}

@@ -91,7 +91,7 @@ entryAt-here e s p q h k =
     in
     rw (v, beAt-here s p (q - p) 2 (omega arith))
 
--- ---- what is known at a place that has an entry
+-- ---- what is known at an offset that has an entry
 
 pub record SnapshotEntry (s : List ℕ) (p : ℕ) : Type 0 where
   pub fields : p + 32 ≤ length s
@@ -144,13 +144,13 @@ unfolding size
 index-fits type s e j = fits indexEntries s 69 (beAt s 65 4) (groups-accepted index s (rw (named-as index e) at j))
 
 -- where entry i stands, and that it is there
-pub record Placed (g : Group) (s : List ℕ) (at i p : ℕ) : Type 0 where
+pub record Stands (g : Group) (s : List ℕ) (at i p : ℕ) : Type 0 where
   pub is : p ≡ groupOffset g s at i
   pub there : fit g s p 1 ≡ true
 
-pub placed : (g : Group) (s : List ℕ) (at i k p : ℕ) → fit g s at k ≡ true → i < k → p ≡ offsetFrom g s at i → Placed g s at i p
+pub stands : (g : Group) (s : List ℕ) (at i k p : ℕ) → fit g s at k ≡ true → i < k → p ≡ offsetFrom g s at i → Stands g s at i p
 unfolding offsetFrom
-placed g s at i k p f h e =
+stands g s at i k p f h e =
     let a : p ≡ groupOffset g s at i = e ∙ rw (fit-fewer g s at i k (omega arith) f) in
     record { is = a; there = rw a (fit-fewer g s (groupOffset g s at i) 1 (k - i) (omega arith) (fit-there g s at i k h f)) }
 
@@ -189,14 +189,14 @@ quantity-none j n = rw (n .shows, le-ltb _ _ zero-le)
 -- ---- a step
 
 module _ (e : Entries) (s : List ℕ) (p k : ℕ) where
-  pub step-none : k ≡ 0 → stepIn (entries e) s (record { place = p; left = k }) ≡ accepted noSuchEntry
+  pub step-none : k ≡ 0 → stepIn (entries e) s (record { offset = p; left = k }) ≡ accepted noSuchEntry
   unfolding guard
   step-none z = rw (eq-eqb _ _ z)
 
-  pub step-refused : {n : ℕ} {vs : List ℕ} → (k ≡ 0 → ⊥) → judgeGroups (entryGroup e) s p 1 ≡ refused n vs → stepIn (entries e) s (record { place = p; left = k }) ≡ refused n vs
+  pub step-refused : {n : ℕ} {vs : List ℕ} → (k ≡ 0 → ⊥) → judgeGroups (entryGroup e) s p 1 ≡ refused n vs → stepIn (entries e) s (record { offset = p; left = k }) ≡ refused n vs
   unfolding guard andThen
   step-refused z j = rw (ne-eqb _ _ z, j)
 
-  pub step-found : (k ≡ 0 → ⊥) → judgeGroups (entryGroup e) s p 1 ≡ accepted tt → stepIn (entries e) s (record { place = p; left = k }) ≡ accepted (found (record { entry = entryAt e s p; onward = record { place = nextOffset (entryGroup e) s p; left = k - 1 } }))
+  pub step-found : (k ≡ 0 → ⊥) → judgeGroups (entryGroup e) s p 1 ≡ accepted tt → stepIn (entries e) s (record { offset = p; left = k }) ≡ accepted (found (record { entry = entryAt e s p; onward = record { offset = nextOffset (entryGroup e) s p; left = k - 1 } }))
   unfolding guard andThen
   step-found z j = rw (ne-eqb _ _ z, j)

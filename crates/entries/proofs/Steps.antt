@@ -50,15 +50,15 @@ module _ (m : Message) (e : Entries) (b : behind m ≡ entries e) (s : List ℕ)
   unfolding step
   step-is c = rw b
 
-  from : (i p k : ℕ) → judgeGroups (entryGroup e) s p k ≡ accepted tt → entryFound (stepAfter (listed m) s i (record { place = p; left = k })) ≡ accepted (below i k (entryAt e s (groupOffset (entryGroup e) s p i)))
+  from : (i p k : ℕ) → judgeGroups (entryGroup e) s p k ≡ accepted tt → entryFound (stepAfter (listed m) s i (record { offset = p; left = k })) ≡ accepted (below i k (entryAt e s (groupOffset (entryGroup e) s p i)))
   unfolding stepAfter groupOffset
-  from zero p zero j = rw (step-is (record { place = p; left = 0 }), step-none e s p 0 refl)
+  from zero p zero j = rw (step-is (record { offset = p; left = 0 }), step-none e s p 0 refl)
   from zero p (suc k) j =
-      rw (step-is (record { place = p; left = suc k }), step-found e s p (suc k) (λ z. omega arith) (first-accepted (entryGroup e) s p k j), lt-ltb 0 (suc k) (omega arith))
+      rw (step-is (record { offset = p; left = suc k }), step-found e s p (suc k) (λ z. omega arith) (first-accepted (entryGroup e) s p k j), lt-ltb 0 (suc k) (omega arith))
   from (suc i) p zero j =
-      rw (step-is (record { place = p; left = 0 }), step-none e s p 0 refl, le-ltb (suc i) 0 (omega arith))
+      rw (step-is (record { offset = p; left = 0 }), step-none e s p 0 refl, le-ltb (suc i) 0 (omega arith))
   from (suc i) p (suc k) j =
-      rw (step-is (record { place = p; left = suc k }), step-found e s p (suc k) (λ z. omega arith) (first-accepted (entryGroup e) s p k j), pred-is k)
+      rw (step-is (record { offset = p; left = suc k }), step-found e s p (suc k) (λ z. omega arith) (first-accepted (entryGroup e) s p k j), pred-is k)
       (from i (nextOffset (entryGroup e) s p) k (rest-accepted (entryGroup e) s p k j) ∙ ap accepted (sym (below-more i k _)))
 
 -- ---- from the start cursor of a body

@@ -34,7 +34,7 @@ abbrev codeEntry : Entry → code-entry.Entry
 codeEntry e = record { characters = e .characters; says = codeSays (e .says) }
 
 abbrev codeCursor : At → code-cursor.Cursor
-codeCursor c = record { place = c .place; left = c .left }
+codeCursor c = record { offset = c .offset; left = c .left }
 
 abbrev codeAskedEntry : Answer (Asked Entry) → asked-entry.AskedEntry
 codeAskedEntry (accepted (found e)) = asked-entry.the-variants.Found (codeEntry e)

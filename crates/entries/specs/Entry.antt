@@ -1,4 +1,4 @@
--- What an entry says; entries by position, shown quantities and the cursor, over layout's place, shown and judgedFrom.
+-- What an entry says; entries by position, shown quantities and the cursor, over layout's offsetFrom, shown and judgeGroups.
 -- Assumes nothing.
 use Prim.Native.Nat.{ℕ, zero, suc, _+_, _-_, _*_}
 use mathlib.Core.Bool.{Bool, false, cond}
@@ -195,18 +195,18 @@ quantityOf type s i j = andThen (judge type s) (λ (u : Unit). accepted (quantit
 
 -- A5: the offset of the next entry, and how many are left
 pub record At : Type 0 where
-  pub place : ℕ
+  pub offset : ℕ
   pub left : ℕ
 
 -- A5: a type without entries, or an unlisted one, has none left
 abbrev pub atNone : At
-atNone = record { place = 0; left = 0 }
+atNone = record { offset = 0; left = 0 }
 
 -- A5: before the first entry; nothing is judged
 abbrev pub startIn : Behind → ℕ → List ℕ → At
 startIn nothing end s = atNone
 startIn (groups g) end s = atNone
-startIn (entries e) end s = record { place = end; left = countAt (entries e) end s }
+startIn (entries e) end s = record { offset = end; left = countAt (entries e) end s }
 
 -- A5: the same of a listed type or none
 unfoldable pub start : Listed → List ℕ → At
@@ -224,13 +224,13 @@ stepIn nothing s c = accepted noSuchEntry
 stepIn (groups g) s c = accepted noSuchEntry
 stepIn (entries e) s c =
     guard (eqb (c .left) 0) (accepted noSuchEntry)
-    (andThen (judgeGroups (entryGroup e) s (c .place) 1)
+    (andThen (judgeGroups (entryGroup e) s (c .offset) 1)
     (λ (u : Unit).
     accepted
     (found
     (record {
-      entry = entryAt e s (c .place);
-      onward = record { place = nextOffset (entryGroup e) s (c .place); left = c .left - 1 };
+      entry = entryAt e s (c .offset);
+      onward = record { offset = nextOffset (entryGroup e) s (c .offset); left = c .left - 1 };
     }))))
 
 -- A6: the same of a listed type or none

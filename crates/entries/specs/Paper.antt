@@ -46,7 +46,7 @@ meansQuantity (asked-quantity.the-variants.Refused x) = refused (bodyRefusal x) 
 
 -- the cursor, and its step
 abbrev pub meansCursor : code-cursor.Cursor → At
-meansCursor c = record { place = c .place; left = c .left }
+meansCursor c = record { offset = c .offset; left = c .left }
 
 abbrev pub meansStep : code-step.Step → Answer (Asked Stepped)
 meansStep (code-step.the-variants.Found e c) = accepted (found (record { entry = meansEntry e; onward = meansCursor c }))

@@ -14,10 +14,10 @@ use layout::Refusal;
 use layout::Verdict;
 use record::Record;
 
-// The place of the next entry, and how many are left.
+// The offset of the next entry, and how many are left.
 #[repr(C)]
 pub struct Cursor {
-    pub place: usize,
+    pub offset: usize,
     pub left: u32,
 }
 
@@ -28,18 +28,18 @@ pub enum Step {
     Refused(Refusal),
 }
 
-// The entry at a place with some left, after 4 and 5 for its own fields and shown quantities.
-fn step_in(e: Entries, body: &[u8], place: usize, left: u32) -> Step
-    ensures { λ r. ⌜ meansStep r ≡ stepIn (entries (meansEntries e)) (now (body .entry)) (record { place = place; left = left }) ⌝ }
+// The entry at an offset with some left, after 4 and 5 for its own fields and shown quantities.
+fn step_in(e: Entries, body: &[u8], offset: usize, left: u32) -> Step
+    ensures { λ r. ⌜ meansStep r ≡ stepIn (entries (meansEntries e)) (now (body .entry)) (record { offset = offset; left = left }) ⌝ }
 {
     if left == 0 {
         return Step::NoSuchEntry;
     }
-    match layout::judge(groups(e), body, place, 1) {
+    match layout::judge(groups(e), body, offset, 1) {
         Verdict::Accepted => Step::Found(
-            entry_at(e, body, place),
+            entry_at(e, body, offset),
             Cursor {
-                place: behind(e, body, place),
+                offset: behind(e, body, offset),
                 left: left - 1,
             },
         ),
@@ -54,14 +54,14 @@ impl Cursor {
     {
         match kind {
             Record::SNAPSHOT => Cursor {
-                place: START,
+                offset: START,
                 left: wire::be4(body, COUNT),
             },
             Record::INDEX => Cursor {
-                place: START,
+                offset: START,
                 left: wire::be4(body, COUNT),
             },
-            _ => Cursor { place: 0, left: 0 },
+            _ => Cursor { offset: 0, left: 0 },
         }
     }
 
@@ -69,11 +69,11 @@ impl Cursor {
     pub fn step(self, kind: u32, body: &[u8]) -> Step
         ensures { λ r. ⌜ meansStep r ≡ step (named kind) (now (body .entry)) (meansCursor self) ⌝ }
     {
-        let place = self.place;
+        let offset = self.offset;
         let left = self.left;
         match kind {
-            Record::SNAPSHOT => step_in(Entries::OfSnapshot, body, place, left),
-            Record::INDEX => step_in(Entries::OfIndex, body, place, left),
+            Record::SNAPSHOT => step_in(Entries::OfSnapshot, body, offset, left),
+            Record::INDEX => step_in(Entries::OfIndex, body, offset, left),
             _ => Step::NoSuchEntry,
         }
     }

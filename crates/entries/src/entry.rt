@@ -234,7 +234,7 @@ pub(crate) fn groups(e: Entries) -> Groups
     }
 }
 
-// The entry at a place that has one.
+// The entry at an offset that has one.
 pub(crate) fn entry_at(e: Entries, s: &[u8], p: usize) -> Entry
     requires { ⌜ fit (entryGroup (meansEntries e)) (now s) p 1 ≡ true ⌝ }
     ensures { λ r. ⌜ meansEntry r ≡ entryAt (meansEntries e) (now (s .entry)) p ⌝ }
@@ -251,7 +251,7 @@ pub(crate) fn entry_at(e: Entries, s: &[u8], p: usize) -> Entry
     }
 }
 
-// The place behind an entry and its shown quantities.
+// The offset behind an entry and its shown quantities.
 pub(crate) fn behind(e: Entries, s: &[u8], p: usize) -> usize
     requires { ⌜ fit (entryGroup (meansEntries e)) (now s) p 1 ≡ true ⌝ }
     ensures { λ r. ⌜ r ≡ nextOffset (entryGroup (meansEntries e)) (now (s .entry)) p ⌝ }
@@ -266,7 +266,7 @@ pub(crate) fn behind(e: Entries, s: &[u8], p: usize) -> usize
     }
 }
 
-// Quantity j of those that the entry at a place shows.
+// Quantity j of those that the entry at an offset shows.
 fn quantity_at(e: Entries, s: &[u8], p: usize, j: u32) -> AskedQuantity
     requires { ⌜ fit (entryGroup (meansEntries e)) (now s) p 1 ≡ true ⌝ }
     ensures { λ r. ⌜ meansQuantity r ≡ accepted (quantityAt (entryGroup (meansEntries e)) (now (s .entry)) p j) ⌝ }
@@ -287,11 +287,11 @@ fn quantity_at(e: Entries, s: &[u8], p: usize, j: u32) -> AskedQuantity
 }
 
 // Where entry i stands, of entries that are all there.
-fn place_of(e: Entries, s: &[u8], i: u32) -> usize
+fn offset_of(e: Entries, s: &[u8], i: u32) -> usize
     requires { ⌜ (fit (entryGroup (meansEntries e)) (now s) entriesStart (beAt (now s) commonSize 4) ≡ true) × (i < beAt (now s) commonSize 4) ⌝ }
     ensures { λ r. ⌜ (r ≡ groupOffset (entryGroup (meansEntries e)) (now (s .entry)) entriesStart i) × (fit (entryGroup (meansEntries e)) (now (s .entry)) r 1 ≡ true) ⌝ }
 {
-    layout::place(groups(e), s, START, i)
+    layout::offset_from(groups(e), s, START, i)
 }
 
 // Entry i of entries that are all there.
@@ -300,7 +300,7 @@ fn entry_in(e: Entries, s: &[u8], i: u32) -> AskedEntry
     ensures { λ r. ⌜ meansAskedEntry r ≡ accepted (entryIn (entries (meansEntries e)) entriesStart (now (s .entry)) i) ⌝ }
 {
     if i < wire::be4(s, COUNT) {
-        let p = place_of(e, s, i);
+        let p = offset_of(e, s, i);
         AskedEntry::Found(entry_at(e, s, p))
     } else {
         AskedEntry::NoSuchEntry
@@ -313,7 +313,7 @@ fn quantity_in(e: Entries, s: &[u8], i: u32, j: u32) -> AskedQuantity
     ensures { λ r. ⌜ meansQuantity r ≡ accepted (quantityIn (entries (meansEntries e)) entriesStart (now (s .entry)) i j) ⌝ }
 {
     if i < wire::be4(s, COUNT) {
-        let p = place_of(e, s, i);
+        let p = offset_of(e, s, i);
         quantity_at(e, s, p, j)
     } else {
         AskedQuantity::NoSuchEntry

@@ -78,21 +78,21 @@ module _ (g : Group) (s : List ℕ) where
       let b = and-both (leb (nextOffset g s at) (length s)) (fit g s (nextOffset g s at) (k - 1)) (a .1) in
       record { fixed = leb-true _ _ (a .0); whole = leb-true _ _ (b .0); rest = b .1 }
 
-  pub place-step : (at k : ℕ) → 0 < k → groupOffset g s at k ≡ groupOffset g s (nextOffset g s at) (k - 1)
+  pub offset-step : (at k : ℕ) → 0 < k → groupOffset g s at k ≡ groupOffset g s (nextOffset g s at) (k - 1)
   unfolding groupOffset
-  place-step at zero h = absurd (omega arith)
-  place-step at (suc k) h = rw (pred-is k)
+  offset-step at zero h = absurd (omega arith)
+  offset-step at (suc k) h = rw (pred-is k)
 
-  pub place-none : (at k : ℕ) → k ≤ 0 → groupOffset g s at k ≡ at
+  pub offset-none : (at k : ℕ) → k ≤ 0 → groupOffset g s at k ≡ at
   unfolding groupOffset
-  place-none at zero h = refl
-  place-none at (suc k) h = absurd (omega arith)
+  offset-none at zero h = refl
+  offset-none at (suc k) h = absurd (omega arith)
 
-  -- the place of the group behind group i
-  pub place-next : (at i : ℕ) → groupOffset g s at (suc i) ≡ nextOffset g s (groupOffset g s at i)
+  -- the offset of the group behind group i
+  pub offset-next : (at i : ℕ) → groupOffset g s at (suc i) ≡ nextOffset g s (groupOffset g s at i)
   unfolding groupOffset
-  place-next at zero = refl
-  place-next at (suc i) = place-next (nextOffset g s at) i
+  offset-next at zero = refl
+  offset-next at (suc i) = offset-next (nextOffset g s at) i
 
   pub groupRanges-step : (at k : ℕ) → 0 < k → groupRanges g s at k ≡ (ranges (g .fields) s at && quantities (shown g s at) s (shownOffset g at)) && groupRanges g s (nextOffset g s at) (k - 1)
   unfolding groupRanges
@@ -111,25 +111,25 @@ module _ (g : Group) (s : List ℕ) where
       let n : Ahead at k = ahead at k (omega arith) e in
       fit-on at (suc i) (omega arith) (n .whole) ∙ rw (pred-is i) (fit-fewer (nextOffset g s at) i (k - 1) (omega arith) (n .rest))
 
-  pub place-within : (at i : ℕ) → at ≤ length s → fit g s at i ≡ true → groupOffset g s at i ≤ length s
-  place-within at zero h e = rw (place-none at 0 zero-le) h
-  place-within at (suc i) h e =
+  pub offset-within : (at i : ℕ) → at ≤ length s → fit g s at i ≡ true → groupOffset g s at i ≤ length s
+  offset-within at zero h e = rw (offset-none at 0 zero-le) h
+  offset-within at (suc i) h e =
       let n : Ahead at (suc i) = ahead at (suc i) (omega arith) e in
-      rw (place-step at (suc i) (omega arith), pred-is i) (place-within (nextOffset g s at) i (n .whole) (rw (pred-is i) at (n .rest)))
+      rw (offset-step at (suc i) (omega arith), pred-is i) (offset-within (nextOffset g s at) i (n .whole) (rw (pred-is i) at (n .rest)))
 
-  pub place-behind : (at i : ℕ) → at ≤ groupOffset g s at i
+  pub offset-behind : (at i : ℕ) → at ≤ groupOffset g s at i
   unfolding groupOffset
-  place-behind at zero = omega arith
-  place-behind at (suc i) = omega (arith, place-behind (nextOffset g s at) i)
+  offset-behind at zero = omega arith
+  offset-behind at (suc i) = omega (arith, offset-behind (nextOffset g s at) i)
 
   -- groups that the bytes lack end behind the bytes
-  pub place-beyond : (at k : ℕ) → fit g s at k ≡ false → length s < groupOffset g s at k
-  place-beyond at zero e = let z : _≡_ {A = ℕ} 0 1 = cc (fit-none at 0 zero-le) in absurd (omega arith)
-  place-beyond at (suc k) e = rw (place-step at (suc k) (omega arith), pred-is k) (go (leb (nextOffset g s at) (length s)) refl (λ f. place-beyond (nextOffset g s at) k f))
+  pub offset-beyond : (at k : ℕ) → fit g s at k ≡ false → length s < groupOffset g s at k
+  offset-beyond at zero e = let z : _≡_ {A = ℕ} 0 1 = cc (fit-none at 0 zero-le) in absurd (omega arith)
+  offset-beyond at (suc k) e = rw (offset-step at (suc k) (omega arith), pred-is k) (go (leb (nextOffset g s at) (length s)) refl (λ f. offset-beyond (nextOffset g s at) k f))
     where
       go : (b : Bool) → leb (nextOffset g s at) (length s) ≡ b → (fit g s (nextOffset g s at) k ≡ false → length s < groupOffset g s (nextOffset g s at) k) → length s < groupOffset g s (nextOffset g s at) k
       go true h on = on (sym (fit-on at (suc k) (omega arith) (leb-true (nextOffset g s at) (length s) h) ∙ rw (pred-is k)) ∙ e)
-      go false h on = omega (arith, leb-false (nextOffset g s at) (length s) h, place-behind (nextOffset g s at) k)
+      go false h on = omega (arith, leb-false (nextOffset g s at) (length s) h, offset-behind (nextOffset g s at) k)
 
   pub fit-there : (at i k : ℕ) → i < k → fit g s at k ≡ true → fit g s (groupOffset g s at i) (k - i) ≡ true
   unfolding groupOffset
@@ -144,12 +144,12 @@ module _ (g : Group) (s : List ℕ) where
   fields-there at i k h e = ahead (groupOffset g s at i) (k - i) (omega arith) (fit-there at i k h e) .fixed
 
   -- groups that show nothing stand one width from each other
-  pub place-flat : g .shows ≡ false → (at i : ℕ) → groupOffset g s at i ≡ at + size (g .fields) * i
+  pub offset-flat : g .shows ≡ false → (at i : ℕ) → groupOffset g s at i ≡ at + size (g .fields) * i
   unfolding groupOffset shown
-  place-flat h at zero = omega arith
-  place-flat h at (suc i) =
+  offset-flat h at zero = omega arith
+  offset-flat h at (suc i) =
       let e : nextOffset g s at ≡ at + size (g .fields) = rw h (omega arith) in
-      rw (e, mul-suc (size (g .fields)) i, place-flat h (at + size (g .fields)) i) (omega arith)
+      rw (e, mul-suc (size (g .fields)) i, offset-flat h (at + size (g .fields)) i) (omega arith)
 
 -- where a walk over k groups stops, and where it ends
 module _ (g : Group) (s : List ℕ) (at k : ℕ) where
@@ -240,8 +240,8 @@ module _ (m : Message) (s : List ℕ) where
   -- a layout needs the bytes up to where its groups end, and no more
   needs-by : (b : Bool) → leb (groupsStart m) (length s) ≡ b → whole m s ≡ false → length s < needs m s
   needs-by true h e =
-      place-beyond (group m) s (groupsStart m) (count m s) (rw h at e)
-  needs-by false h e = omega (arith, leb-false (groupsStart m) (length s) h, place-behind (group m) s (groupsStart m) (count m s))
+      offset-beyond (group m) s (groupsStart m) (count m s) (rw h at e)
+  needs-by false h e = omega (arith, leb-false (groupsStart m) (length s) h, offset-behind (group m) s (groupsStart m) (count m s))
 
   pub needs-more : whole m s ≡ false → length s < needs m s
   needs-more e = needs-by (leb (groupsStart m) (length s)) refl e
@@ -249,7 +249,7 @@ module _ (m : Message) (s : List ℕ) where
   pub needs-no-more : whole m s ≡ true → needs m s ≤ length s
   needs-no-more e =
       let a = and-both (leb (groupsStart m) (length s)) (fit (group m) s (groupsStart m) (count m s)) e in
-      place-within (group m) s (groupsStart m) (count m s) (leb-true _ _ (a .0)) (a .1)
+      offset-within (group m) s (groupsStart m) (count m s) (leb-true _ _ (a .0)) (a .1)
 
 -- nothing behind the fields is always there and in range
 pub judged-nothing : (s : List ℕ) (at : ℕ) → judgeGroups noGroup s at 0 ≡ accepted tt

@@ -1,5 +1,5 @@
 -- Groups behind a count and the quantities that each shows; where group i stands; and the judging of a body, 4 for the whole of it before 5.
--- Entries by position and the cursor build on place, shown and judgedFrom.
+-- Entries by position and the cursor build on offsetFrom, shown and judgeGroups.
 -- Assumes nothing.
 use Prim.Native.Nat.{ℕ, zero, suc, _+_, _-_, _*_}
 use mathlib.Core.Bool.{Bool, true, false, cond, not, _&&_}

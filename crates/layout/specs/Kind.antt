@@ -61,7 +61,7 @@ characters financialStatus = 8
 characters newsId = 8
 characters rejectText = 16
 
--- texts are told apart by their place in this list
+-- texts are told apart by their order in this list
 abbrev pub textNumber : Text → ℕ
 textNumber stream = 0
 textNumber security = 1

@@ -17,6 +17,7 @@ use crate::range::yes_no_in_range;
 use crate::stream;
 use crate::switch;
 use crate::width::QUANTITY;
+use wire::answers;
 
 // The groups of a statistics body, of a security status, of an index, and of a snapshot.
 pub enum Groups {
@@ -38,8 +39,8 @@ impl Refusal {
         ensures { λ r. ⌜ r ≡ bodyRefusal self ⌝ }
     {
         match self {
-            Refusal::NotItsLayout => 4,
-            Refusal::OutOfRange => 5,
+            Refusal::NotItsLayout => answers::NOT_ITS_LAYOUT,
+            Refusal::OutOfRange => answers::OUT_OF_RANGE,
         }
     }
 }
@@ -229,7 +230,7 @@ pub fn judge_all(g: Groups, s: &[u8], k: u32) -> Verdict
 }
 
 // Where group i stands, counted from an offset on; that offset itself where the bytes lack one before it.
-pub fn place(g: Groups, s: &[u8], at: usize, i: u32) -> usize
+pub fn offset_from(g: Groups, s: &[u8], at: usize, i: u32) -> usize
     ensures { λ r. ⌜ r ≡ offsetFrom (meansGroups g) (now (s .entry)) at i ⌝ }
 {
     let w = walk(g, s, at, i);

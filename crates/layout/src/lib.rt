@@ -23,7 +23,7 @@ pub use group::Refusal;
 pub use group::Verdict;
 pub use group::judge;
 pub use group::judge_all;
-pub use group::place;
+pub use group::offset_from;
 pub use range::amount_in_range;
 pub use range::entry_price_in_range;
 pub use range::execution_in_range;

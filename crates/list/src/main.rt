@@ -13,8 +13,8 @@ const GATHERED: usize = 65536;
 const MARGIN: usize = 64;
 
 // Where the listing is: bytes of the window that are listed, offset and frames so far, bytes gathered, the number of the
-// refusal at that place, 0 where there is none, and whether a write failed.
-struct Place {
+// refusal at that offset, 0 where there is none, and whether a write failed.
+struct Progress {
     from: usize,
     offset: u64,
     frames: u64,
@@ -50,8 +50,8 @@ fn last_line(out: &mut [u8], at: usize, offset: u64, how: &[u8], number: u64) ->
     text::word(out, c, b"\n")
 }
 
-// Lists the frames of the window's bytes, from a place on, up to a refusal or a failed write.
-fn list_window(bytes: &[u8], out: &mut [u8], start: Place) -> Place
+// Lists the frames of the window's bytes, from an offset on, up to a refusal or a failed write.
+fn list_window(bytes: &[u8], out: &mut [u8], start: Progress) -> Progress
     ensures { λ r. ⌜ r .from ≤ length (now (bytes .entry)) ⌝ }
 {
     let mut from: usize = 0;
@@ -68,7 +68,7 @@ fn list_window(bytes: &[u8], out: &mut [u8], start: Place) -> Place
                 offset = std::num::wrapping_add_u64(offset, f.total as u64);
                 frames = std::num::wrapping_add_u64(frames, 1);
                 if held.failed {
-                    return Place {
+                    return Progress {
                         from,
                         offset,
                         frames,
@@ -80,7 +80,7 @@ fn list_window(bytes: &[u8], out: &mut [u8], start: Place) -> Place
             }
             Framed::Refused(why) => {
                 let refused = frame::number(why);
-                return Place {
+                return Progress {
                     from,
                     offset,
                     frames,
@@ -91,7 +91,7 @@ fn list_window(bytes: &[u8], out: &mut [u8], start: Place) -> Place
             }
         }
     }
-    Place {
+    Progress {
         from,
         offset,
         frames,
@@ -110,18 +110,24 @@ fn put(out: &[u8], gathered: usize) {
 }
 
 // The last line, and all that is gathered.
-fn finish(out: &mut [u8], place: Place) {
-    if place.refused == 0 {
-        let held = last_line(out, place.gathered, place.offset, b" end ", place.frames);
+fn finish(out: &mut [u8], progress: Progress) {
+    if progress.refused == 0 {
+        let held = last_line(
+            out,
+            progress.gathered,
+            progress.offset,
+            b" end ",
+            progress.frames,
+        );
         put(out, held);
         return;
     }
     let held = last_line(
         out,
-        place.gathered,
-        place.offset,
+        progress.gathered,
+        progress.offset,
         b" refused ",
-        place.refused as u64,
+        progress.refused as u64,
     );
     put(out, held);
 }
@@ -129,7 +135,7 @@ fn finish(out: &mut [u8], place: Place) {
 // Lists standard input. A refusal 1 waits for more bytes while there are any; the turns are more than any input takes. A read or
 // a write that fails is told, and no line says that the listing is whole.
 fn list(bytes: &mut [u8], out: &mut [u8]) {
-    let mut place = Place {
+    let mut progress = Progress {
         from: 0,
         offset: 0,
         frames: 0,
@@ -144,23 +150,23 @@ fn list(bytes: &mut [u8], out: &mut [u8]) {
         let filled = window::fill(bytes, held);
         if filled.failed {
             input_failed();
-            put(out, place.gathered);
+            put(out, progress.gathered);
             return;
         }
         let now_held = filled.count;
-        place = list_window(&bytes[0..now_held], out, place);
-        if place.failed {
+        progress = list_window(&bytes[0..now_held], out, progress);
+        if progress.failed {
             output_failed();
             return;
         }
-        if (now_held == held) | (1 < place.refused) {
-            finish(out, place);
+        if (now_held == held) | (1 < progress.refused) {
+            finish(out, progress);
             return;
         }
-        let from = place.from;
+        let from = progress.from;
         held = window::slide(bytes, from, now_held);
     }
-    finish(out, place);
+    finish(out, progress);
 }
 
 fn main() {

@@ -6,7 +6,7 @@ use mathlib.Core.List.{List}
 use Rattle.tracker.specs.declared.Tracker.{Tracker}
 use Rattle.tracker.specs.declared.Started.{Started}
 use Rattle.tracker.specs.declared.Verdict.{Verdict}
-use Rattle.tracker.specs.Number.{refusalNumber}
+use Rattle.wire.specs.Number.{answerNumber}
 use Rattle.tracker.specs.SetUp.{Ready, setUpSaid as startOf, meansStarted as begun}
 use Rattle.tracker.specs.Arrived.{Outcome, arrivalSaid, answered}
 use Rattle.tracker.specs.declared.Requested.{Requested}
@@ -14,10 +14,10 @@ use Rattle.tracker.specs.Request.{request, requestLeaves, meansRequested}
 use Rattle.orizhgum.specs.Requested.{requestAnswer}
 use Rattle.orizhgum.specs.Arrivals.{Arrived, saidNumber, startAnswer, arrivalAnswer}
 use Rattle.orizhgum.specs.declared.arrivals.StartAnswer.{StartAnswer}
-use Rattle.orizhgum.proofs.Answered.{answers}
+use Rattle.wire.proofs.Answer.{answers}
 
 -- the set-up's answer by its number, and the tracker
-pub starts : (r : Started) {n : ℕ} {o : Ready} → n ≡ refusalNumber (startOf (r .verdict)) → begun r ≡ o →
+pub starts : (r : Started) {n : ℕ} {o : Ready} → n ≡ answerNumber (startOf (r .verdict)) → begun r ≡ o →
     _≡_ {A = StartAnswer} (record { answer = n; tracker = r .tracker }) (startAnswer o)
 starts r p q = (λ i. record { answer = p i; tracker = r .tracker }) ∙ ap startAnswer q
 

@@ -9,7 +9,7 @@ use Rattle.layout.specs.Layout.{Message, Listed, listed, unlisted, fields, text
 use Rattle.layout.specs.Group.{judgeBody}
 use Rattle.record.specs.Asked.{filled, judgeListed}
 use Rattle.record.specs.Record.{Reading, numbersAs, readAs, isListed}
-use Rattle.orizhgum.specs.Numbers.{answerNumber, unknownNumber}
+use Rattle.wire.specs.Number.{answerNumber, unknownNumber}
 use Rattle.orizhgum.specs.Records.{judgedNumber, RecordAnswer, recordAnswer}
 
 -- how a body of a type reads, by whether the type is listed

@@ -7,7 +7,7 @@ use Rattle.wire.specs.Answer.{Answer, accepted, refused}
 use Rattle.gaps.specs.Channel.{ArrivalSaid, new, late, duplicate, heard}
 use Rattle.tracker.specs.SetUp.{Ready}
 use Rattle.tracker.specs.Arrived.{Outcome}
-use Rattle.orizhgum.specs.Numbers.{plain, lateNumber, duplicateNumber, answerNumber}
+use Rattle.wire.specs.Number.{plain, lateNumber, duplicateNumber, answerNumber}
 use Rattle.orizhgum.specs.declared.arrivals.StartAnswer.{StartAnswer}
 use Rattle.tracker.specs.declared.Tracker.{Tracker}
 

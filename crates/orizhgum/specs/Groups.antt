@@ -5,7 +5,7 @@ use mathlib.Core.List.{List, [], _∷_}
 use lib.IntN.{ℤ, natAbs}
 use Rattle.wire.specs.Answer.{Answer, accepted, refused}
 use Rattle.record.specs.Asked.{WithTexts, Asked, found, noSuchEntry}
-use Rattle.orizhgum.specs.Numbers.{plain, noSuchEntryNumber}
+use Rattle.wire.specs.Number.{plain, noSuchEntryNumber}
 use Rattle.orizhgum.specs.declared.groups.Grouped.{Grouped}
 
 -- C5: a group of 390090 has one number, a group of 390013 two

@@ -1,7 +1,7 @@
-pub mod Numbers
+pub mod Framed
 pub mod Records
 pub mod Groups
-pub mod Entries
+pub mod Quantity
 pub mod Arrivals
 pub mod Written
 pub mod Requested

@@ -8,7 +8,7 @@ use Rattle.record.specs.Asked.{judgeListed}
 use Rattle.record.specs.Record.{Reading, numbersAs, readAs}
 use Rattle.record.specs.Paper.{meansRecord}
 use Rattle.record.specs.declared.Record.{Record}
-use Rattle.orizhgum.specs.Numbers.{answerNumber, unknownNumber}
+use Rattle.wire.specs.Number.{answerNumber, unknownNumber}
 
 -- C3: how a body of a type reads: plainly or refused by 4 or 5; a type that is not listed is unknown
 abbrev pub judgedNumber : Listed → List ℕ → ℕ

@@ -2,7 +2,7 @@
 -- Assumes nothing.
 use Rattle.wire.specs.Answer.{Answer, accepted, refused}
 use Rattle.tracker.specs.Request.{RequestSaid, written, nothing}
-use Rattle.orizhgum.specs.Numbers.{plain, nothingMissingNumber}
+use Rattle.wire.specs.Number.{plain, nothingMissingNumber}
 use Rattle.orizhgum.specs.declared.written.WriteAnswer.{WriteAnswer}
 
 -- C10: how many bytes were written, none but for the plain answer

@@ -2,7 +2,7 @@
 -- Assumes nothing.
 use Prim.Native.Nat.{ℕ}
 use Rattle.wire.specs.Answer.{Answer, accepted, refused}
-use Rattle.orizhgum.specs.Numbers.{plain}
+use Rattle.wire.specs.Number.{plain}
 use Rattle.orizhgum.specs.declared.written.WriteAnswer.{WriteAnswer}
 
 -- C10: how many bytes were written, none by a refusal

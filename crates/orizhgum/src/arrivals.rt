@@ -6,14 +6,14 @@ ghost use Rattle.tracker.specs.Places.{made};
 ghost use Rattle.tracker.specs.SetUp.{setUp};
 ghost use Rattle.tracker.specs.Arrived.{on, arrive, arrivalSaid};
 ghost use Rattle.orizhgum.specs.Arrivals.{saidNumber, startAnswer, ending, replied, arrivalAnswer};
-use crate::answers::DUPLICATE;
-use crate::answers::LATE;
-use crate::answers::PLAIN;
 use seats::Seat;
 use tracker::Tracker;
 use tracker::Verdict;
 use tracker::heartbeat_in;
 use tracker::tick_in;
+use wire::answers::DUPLICATE;
+use wire::answers::LATE;
+use wire::answers::PLAIN;
 
 #[repr(C)]
 pub struct StartAnswer {

@@ -2,10 +2,10 @@
 ghost use mathlib.Core.Path.{_≡_};
 ghost use Rattle.record.specs.Record.{groupOf};
 ghost use Rattle.orizhgum.specs.Groups.{groupAnswer};
-use crate::answers::NO_SUCH_ENTRY;
-use crate::answers::PLAIN;
 use layout::TEXT_ROOM;
 use record::GroupAnswer;
+use wire::answers::NO_SUCH_ENTRY;
+use wire::answers::PLAIN;
 
 // A group: the stock number and the texts of a stream, or a switch type and its yes/no; the others are zero.
 #[repr(C)]

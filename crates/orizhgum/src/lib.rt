@@ -1,14 +1,13 @@
 // The C interface: exported functions over the crates below. Answer 0 is the plain one, 1 to 99 are the refusals.
 ghost use mathlib.Core.Path.{_≡_};
 ghost use Rattle.frame.specs.Framing.{read, headerWidth, bodyLimit};
-ghost use Rattle.orizhgum.specs.Numbers.{frameAnswer};
+ghost use Rattle.orizhgum.specs.Framed.{frameAnswer};
 use frame::Framed;
+use wire::answers;
 
-mod answers;
 pub mod arrivals;
 pub mod entry;
 pub mod groups;
-pub mod next;
 pub mod records;
 pub mod requested;
 pub mod written;
@@ -28,7 +27,7 @@ pub extern "C" fn orizhgum_frame(bytes: &[u8]) -> FrameAnswer
 {
     match frame::read(bytes) {
         Framed::Whole(f) => FrameAnswer {
-            answer: 0,
+            answer: answers::PLAIN,
             kind: f.kind,
             len: f.len,
             total: f.total,

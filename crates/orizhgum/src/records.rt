@@ -4,8 +4,6 @@ ghost use Rattle.layout.specs.Layout as of;
 ghost use Rattle.layout.specs.Layout.{named};
 ghost use Rattle.record.specs.declared.Record.the-variants as is;
 ghost use Rattle.orizhgum.specs.Records.{judgedNumber, recordAnswer, answerAs};
-use crate::answers::PLAIN;
-use crate::answers::UNKNOWN;
 use layout::TEXT_ROOM;
 use layout::Verdict;
 use record::ChannelHeartbeat;
@@ -17,6 +15,8 @@ use record::Snapshot;
 use record::Statistics;
 use record::Trade;
 use record::VolumeIndex;
+use wire::answers::PLAIN;
+use wire::answers::UNKNOWN;
 
 // How a body of a type reads, without its fields: plainly, by 4 or 5, or as unknown.
 #[no_mangle]

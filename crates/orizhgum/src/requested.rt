@@ -4,13 +4,13 @@ ghost use Rattle.seats.specs.Arrays.{atEntry};
 ghost use Rattle.tracker.specs.Places.{made};
 ghost use Rattle.tracker.specs.Request.{request, requestLeaves};
 ghost use Rattle.orizhgum.specs.Requested.{requestAnswer};
-use crate::answers::NOTHING_MISSING;
-use crate::answers::PLAIN;
 use crate::written::WriteAnswer;
 use seats::Seat;
 use tracker::Requested;
 use tracker::Tracker;
 use tracker::request_in;
+use wire::answers::NOTHING_MISSING;
+use wire::answers::PLAIN;
 
 #[no_mangle]
 pub extern "C" fn orizhgum_request_in<'a>(

@@ -5,7 +5,6 @@ ghost use Rattle.record.specs.declared.Record.the-variants as is;
 ghost use Rattle.writer.specs.Paper as writer_paper;
 ghost use Rattle.writer.specs.Write.{write, writeLeaves};
 ghost use Rattle.orizhgum.specs.Written.{writeAnswer};
-use crate::answers::PLAIN;
 use record::ChannelHeartbeat;
 use record::Index;
 use record::Order;
@@ -15,6 +14,7 @@ use record::Snapshot;
 use record::Statistics;
 use record::Trade;
 use record::VolumeIndex;
+use wire::answers::PLAIN;
 use writer::Written;
 
 // How many bytes were written; 0 where it is refused, and the output is as it stood.

@@ -7,7 +7,7 @@ use native.Mathlib.Omega.{arith}
 use lib.ListN.{length, take, drop}
 use lib.Seq.{take-add, drop-drop}
 use Rattle.wire.specs.Bytes.{part, splice, putAt}
-use Rattle.wire.proofs.Place.{placed-fits, length-splice, splice-more}
+use Rattle.wire.proofs.PutAt.{put-fits, length-splice, splice-more}
 use Rattle.layout.specs.Layout.{fields, texts, resend, securityStatus, snapshot, index, volumeIndex, order, trade, streams}
 use Rattle.record.specs.Asked.{zeros, filled}
 
@@ -59,7 +59,7 @@ module _ (s : List ℕ) where
       let e : at + 3 + 4 ≡ at + 7 = omega arith in
       rw (a, b, e) (ap (λ (l : List ℕ). take 3 (drop at s) ++ l) (sym (append-nil (take 8 (drop (at + 7) s)))))
 
--- ---- placed in zeros
+-- ---- put in zeros
 
 drop-zeros : (n k : ℕ) → drop n (zeros k) ≡ zeros (k - n)
 drop-zeros zero k = let e : k - 0 ≡ k = omega arith in rw e
@@ -78,13 +78,13 @@ filled-as t =
     rw e (ap (λ (l : List ℕ). t ++ l) (drop-zeros (length t) 24))
 
 -- two texts, one behind the other
-pub both-placed : (a b : List ℕ) → length a + length b ≤ 24 → putAt (putAt (zeros 24) 0 a) (length a) b ≡ filled (a ++ b)
-both-placed a b h =
+pub both-put : (a b : List ℕ) → length a + length b ≤ 24 → putAt (putAt (zeros 24) 0 a) (length a) b ≡ filled (a ++ b)
+both-put a b h =
     let z : length (zeros 24) ≡ 24 = length-zeros 24 in
     let e : length a ≡ 0 + length a = omega arith in
     let l : length (splice (zeros 24) 0 a) ≡ 24 = length-splice (zeros 24) 0 a (omega arith) ∙ z in
-    rw (placed-fits (zeros 24) 0 a (omega arith))
-    (placed-fits (splice (zeros 24) 0 a) (length a) b (omega arith)
+    rw (put-fits (zeros 24) 0 a (omega arith))
+    (put-fits (splice (zeros 24) 0 a) (length a) b (omega arith)
     ∙ ap (λ (n : ℕ). splice (splice (zeros 24) 0 a) n b) e
     ∙ splice-more (zeros 24) 0 a b (omega arith)
     ∙ filled-as (a ++ b))

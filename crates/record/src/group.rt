@@ -80,7 +80,7 @@ fn behind(g: Groups, body: &[u8], end: usize) -> &[u8]
     requires { ⌜ ((kind.width kind.groupCount ≤ end) × (end ≤ length (now body))) × (fit (layout_paper.meansGroups g) (now body) end (beAt (now body) (end - kind.width kind.groupCount) (kind.width kind.groupCount)) ≡ true) ⌝ }
     ensures { λ r. ⌜ now r ≡ part end (groupOffset (layout_paper.meansGroups g) (now (body .entry)) end (beAt (now (body .entry)) (end - kind.width kind.groupCount) (kind.width kind.groupCount))) (now (body .entry)) ⌝ }
 {
-    let e = layout::place(g, body, end, wire::be4(body, end - width::COUNT));
+    let e = layout::offset_from(g, body, end, wire::be4(body, end - width::COUNT));
     &body[end..e]
 }
 

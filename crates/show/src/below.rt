@@ -123,7 +123,7 @@ pub fn entry(i: u32, e: Entry) -> Line {
     }
 }
 
-// Where the shown quantities of an entry begin that stands from a place up to another; the second where it has none.
+// Where the shown quantities of an entry begin that stands from an offset up to another; the second where it has none.
 pub fn behind(kind: u32, from: usize, to: usize) -> usize {
     if kind != Record::SNAPSHOT {
         return to;
@@ -137,7 +137,7 @@ pub fn behind(kind: u32, from: usize, to: usize) -> usize {
     from + layout::entry::WIDTH
 }
 
-// A shown quantity that stands at a place, with the number of its line.
+// A shown quantity that stands at an offset, with the number of its line.
 pub fn quantity(body: &[u8], at: usize, number: u64) -> Line {
     short(
         [0u8; TEXT_ROOM],

@@ -32,8 +32,8 @@ const TABLE: usize = 2048;
 const MARGIN: usize = 1024;
 
 // Where the program is: bytes of the window that are shown, offset and frames so far, bytes gathered, the number of the refusal
-// 1 to 3 at that place, 0 where there is none, and whether a write failed.
-struct Place {
+// 1 to 3 at that offset, 0 where there is none, and whether a write failed.
+struct Progress {
     from: usize,
     offset: u64,
     frames: u64,
@@ -68,7 +68,7 @@ fn piece(out: &mut [u8], at: usize, table: &[u8], kind: u32, line: Line) -> Held
     good(words::write(out, room.count, table, kind, line))
 }
 
-// The shown quantities that stand in a body from a place up to another.
+// The shown quantities that stand in a body from an offset up to another.
 fn show_quantities(
     out: &mut [u8],
     at: usize,
@@ -77,25 +77,25 @@ fn show_quantities(
     from: usize,
     to: usize,
 ) -> Held {
-    let mut place = at;
+    let mut offset = at;
     let mut p = from;
     let mut number = table::FIRST_QUANTITY;
     while p < to {
         if to - p < below::QUANTITY {
-            return good(place);
+            return good(offset);
         }
-        let put = piece(out, place, table, 0, below::quantity(body, p, number));
+        let put = piece(out, offset, table, 0, below::quantity(body, p, number));
         if put.failed {
             return put;
         }
-        place = put.count;
+        offset = put.count;
         number = table::QUANTITY;
         p += below::QUANTITY;
     }
-    good(place)
+    good(offset)
 }
 
-// Entry i of a body, whose shown quantities stand from a place up to another.
+// Entry i of a body, whose shown quantities stand from an offset up to another.
 fn show_entry(
     out: &mut [u8],
     at: usize,
@@ -126,22 +126,22 @@ fn show_entries(
     count: u32,
 ) -> Held {
     let start = Cursor::start(kind, body);
-    let mut from = start.place;
-    let mut place = at;
+    let mut from = start.offset;
+    let mut offset = at;
     let mut i: u32 = 0;
     while i < count {
         let cursor = Cursor {
-            place: from,
+            offset: from,
             left: count - i,
         };
         let more = i + 1;
         match cursor.step(kind, body) {
             Step::Found(e, next) => {
-                let to = next.place;
+                let to = next.offset;
                 let line = below::entry(i, e);
                 let put = show_entry(
                     out,
-                    place,
+                    offset,
                     table,
                     body,
                     line,
@@ -151,31 +151,31 @@ fn show_entries(
                 if put.failed {
                     return put;
                 }
-                place = put.count;
+                offset = put.count;
                 from = to;
                 i = more;
             }
-            Step::NoSuchEntry => return good(place),
-            Step::Refused(_) => return good(place),
+            Step::NoSuchEntry => return good(offset),
+            Step::Refused(_) => return good(offset),
         }
     }
-    good(place)
+    good(offset)
 }
 
 // The groups of a statistics body or a security status, one behind the other.
 fn show_groups(out: &mut [u8], at: usize, table: &[u8], kind: u32, all: &[u8], count: u32) -> Held {
     let width = below::width(kind);
     let mut from: usize = 0;
-    let mut place = at;
+    let mut offset = at;
     let mut i: u32 = 0;
     while i < count {
         if all.len() - from < width {
-            return good(place);
+            return good(offset);
         }
         let to = from + width;
         let put = piece(
             out,
-            place,
+            offset,
             table,
             kind,
             below::group(kind, &all[from..to], i),
@@ -183,11 +183,11 @@ fn show_groups(out: &mut [u8], at: usize, table: &[u8], kind: u32, all: &[u8], c
         if put.failed {
             return put;
         }
-        place = text::word(out, put.count, b"\n");
+        offset = text::word(out, put.count, b"\n");
         from = to;
         i += 1;
     }
-    good(place)
+    good(offset)
 }
 
 // All lines of a frame at an offset.
@@ -205,22 +205,22 @@ fn show_frame(
     if put.failed {
         return put;
     }
-    let place = text::word(out, put.count, b"\n");
+    let offset = text::word(out, put.count, b"\n");
     if (kind == Record::STATISTICS) | (kind == Record::SECURITY_STATUS) {
         return show_groups(
             out,
-            place,
+            offset,
             table,
             kind,
             record::groups_of(kind, body),
             count,
         );
     }
-    show_entries(out, place, table, kind, body, count)
+    show_entries(out, offset, table, kind, body, count)
 }
 
 // Shows the frames of the window's bytes, up to a refusal or a failed write.
-fn show_window(bytes: &[u8], out: &mut [u8], table: &[u8], start: Place) -> Place
+fn show_window(bytes: &[u8], out: &mut [u8], table: &[u8], start: Progress) -> Progress
     ensures { λ r. ⌜ r .from ≤ length (now (bytes .entry)) ⌝ }
 {
     let mut from: usize = 0;
@@ -237,7 +237,7 @@ fn show_window(bytes: &[u8], out: &mut [u8], table: &[u8], start: Place) -> Plac
                 offset = std::num::wrapping_add_u64(offset, f.total as u64);
                 frames = std::num::wrapping_add_u64(frames, 1);
                 if held.failed {
-                    return Place {
+                    return Progress {
                         from,
                         offset,
                         frames,
@@ -249,7 +249,7 @@ fn show_window(bytes: &[u8], out: &mut [u8], table: &[u8], start: Place) -> Plac
             }
             Framed::Refused(why) => {
                 let refused = frame::number(why);
-                return Place {
+                return Progress {
                     from,
                     offset,
                     frames,
@@ -260,7 +260,7 @@ fn show_window(bytes: &[u8], out: &mut [u8], table: &[u8], start: Place) -> Plac
             }
         }
     }
-    Place {
+    Progress {
         from,
         offset,
         frames,
@@ -271,17 +271,17 @@ fn show_window(bytes: &[u8], out: &mut [u8], table: &[u8], start: Place) -> Plac
 }
 
 // The last line, as the listing's.
-fn last(place: Place) -> Line {
-    let offset = wire::signed(place.offset);
-    let frames = wire::signed(place.frames);
-    if place.refused == 0 {
+fn last(progress: Progress) -> Line {
+    let offset = wire::signed(progress.offset);
+    let frames = wire::signed(progress.frames);
+    if progress.refused == 0 {
         return words::short([0u8; TEXT_ROOM], table::END, offset, frames, 0, 0, 0, 0);
     }
     words::short(
         [0u8; TEXT_ROOM],
         table::REFUSED,
         offset,
-        place.refused as i64,
+        progress.refused as i64,
         0,
         0,
         0,
@@ -298,8 +298,8 @@ fn put(out: &[u8], gathered: usize) {
 }
 
 // Writes the last line, and all that is gathered.
-fn finish(out: &mut [u8], table: &[u8], place: Place) {
-    let a = words::write(out, place.gathered, table, 0, last(place));
+fn finish(out: &mut [u8], table: &[u8], progress: Progress) {
+    let a = words::write(out, progress.gathered, table, 0, last(progress));
     let b = text::word(out, a, b"\n");
     put(out, b);
 }
@@ -307,7 +307,7 @@ fn finish(out: &mut [u8], table: &[u8], place: Place) {
 // Shows the frames of standard input. A refusal 1 waits for more bytes while there are any; the turns are more than any input takes.
 // A read or a write that fails is told, and no line says that all is shown.
 fn show(bytes: &mut [u8], out: &mut [u8], table: &[u8]) {
-    let mut place = Place {
+    let mut progress = Progress {
         from: 0,
         offset: 0,
         frames: 0,
@@ -322,23 +322,23 @@ fn show(bytes: &mut [u8], out: &mut [u8], table: &[u8]) {
         let filled = window::fill(bytes, held);
         if filled.failed {
             input_failed();
-            put(out, place.gathered);
+            put(out, progress.gathered);
             return;
         }
         let now_held = filled.count;
-        place = show_window(&bytes[0..now_held], out, table, place);
-        if place.failed {
+        progress = show_window(&bytes[0..now_held], out, table, progress);
+        if progress.failed {
             output_failed();
             return;
         }
-        if (now_held == held) | (1 < place.refused) {
-            finish(out, table, place);
+        if (now_held == held) | (1 < progress.refused) {
+            finish(out, table, progress);
             return;
         }
-        let from = place.from;
+        let from = progress.from;
         held = window::slide(bytes, from, now_held);
     }
-    finish(out, table, place);
+    finish(out, table, progress);
 }
 
 fn main() {

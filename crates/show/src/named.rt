@@ -32,7 +32,7 @@ pub enum Text {
     RejectText,
 }
 
-// The n bytes from a place on, or those that are left.
+// The n bytes from an offset on, or those that are left.
 pub fn span(s: &[u8], at: usize, n: usize) -> &[u8]
     ensures { λ r. ⌜ now r ≡ take n (drop at (now (s .entry))) ⌝ }
 {

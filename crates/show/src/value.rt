@@ -85,11 +85,11 @@ fn trimmed(bytes: &[u8]) -> usize
 // A text without the spaces on its right.
 pub fn text(out: &mut [u8], at: usize, bytes: &[u8]) -> usize {
     let n = trimmed(bytes);
-    let mut place = at;
+    let mut offset = at;
     let mut i: usize = 0;
     while i < n {
-        place = character(out, place, bytes[i]);
+        offset = character(out, offset, bytes[i]);
         i += 1;
     }
-    place
+    offset
 }

@@ -33,7 +33,7 @@ pub fn short(
     full(texts, number, [a, b, c, d, e, f, 0, 0, 0, 0, 0, 0])
 }
 
-// The first place from a place on where the line ends or a byte from low to high stands; the end where there is none.
+// The first offset from an offset on where the line ends or a byte from low to high stands; the end where there is none.
 fn next(table: &[u8], from: usize, low: u8, high: u8) -> usize
     requires { ⌜ from ≤ length (now table) ⌝ }
     ensures { λ r. ⌜ (from ≤ r) × (r ≤ length (now (table .entry))) ⌝ }
@@ -48,7 +48,7 @@ fn next(table: &[u8], from: usize, low: u8, high: u8) -> usize
     i
 }
 
-// The place where line n of a table begins, from 0; the end where it has none.
+// The offset where line n of a table begins, from 0; the end where it has none.
 fn start(table: &[u8], n: u64) -> usize
     ensures { λ r. ⌜ r ≤ length (now (table .entry)) ⌝ }
 {
@@ -70,7 +70,7 @@ fn field_at(fields: &[i64], k: usize) -> i64 {
     if k < fields.len() { fields[k] } else { 0 }
 }
 
-// The line that begins at a place of a table, with the fields in the places of the marks.
+// The line that begins at an offset of a table, with the fields in the places of the marks.
 fn walk(
     out: &mut [u8],
     at: usize,
@@ -80,21 +80,21 @@ fn walk(
     kind: u32,
     texts: &[u8],
 ) -> usize {
-    let mut place = at;
+    let mut offset = at;
     let mut i = from;
     let mut k: usize = 0;
     while i < table.len() {
         let end = next(table, i, b'A', b'Z');
-        place = text::word(out, place, &table[i..end]);
+        offset = text::word(out, offset, &table[i..end]);
         let found = wire::be1(table, end);
         if found < b'A' {
-            return place;
+            return offset;
         }
-        place = field::write(out, place, found, field_at(fields, k), kind, texts);
+        offset = field::write(out, offset, found, field_at(fields, k), kind, texts);
         i = end + 1;
         k += 1;
     }
-    place
+    offset
 }
 
 // A line of a frame of a type.

@@ -3,7 +3,7 @@ ghost use mathlib.Core.Path.{_≡_};
 ghost use Rattle.wire.specs.Bytes.{putAt};
 ghost use Rattle.text.specs.Text.{decimalOf, offsetBehind};
 
-// Some bytes at a place; answers the place behind them. Where they don't fit, nothing changes and the place is answered.
+// Some bytes at an offset; answers the offset behind them. Where they don't fit, nothing changes and the offset is answered.
 pub fn word(out: &mut [u8], at: usize, bytes: &[u8]) -> usize
     ensures { λ r. ⌜ (now (out .exit) ≡ putAt (now (out .entry)) at (now (bytes .entry))) × (r ≡ offsetBehind (now (out .entry)) at (now (bytes .entry))) ⌝ }
 {
@@ -18,7 +18,7 @@ pub fn word(out: &mut [u8], at: usize, bytes: &[u8]) -> usize
     at + n
 }
 
-// A number in decimal digits at a place; answers as word does.
+// A number in decimal digits at an offset; answers as word does.
 pub fn decimal(out: &mut [u8], at: usize, v: u64) -> usize
     ensures { λ r. ⌜ (now (out .exit) ≡ putAt (now (out .entry)) at (decimalOf v)) × (r ≡ offsetBehind (now (out .entry)) at (decimalOf v)) ⌝ }
 {

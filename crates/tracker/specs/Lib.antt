@@ -4,5 +4,4 @@ pub mod SetUp
 pub mod Arrived
 pub mod FirstRun
 pub mod Request
-pub mod Number
 pub mod Inside

@@ -1,7 +1,7 @@
 // The gap record of up to eight channels: which numbers never came, in whatever order they came.
 ghost use mathlib.Core.Path.{_≡_};
 ghost use Rattle.gaps.specs.Channel.{tick, heartbeat};
-ghost use Rattle.tracker.specs.Number.{refusalNumber};
+ghost use Rattle.wire.specs.Number.{answerNumber};
 ghost use Rattle.tracker.specs.SetUp.{blankWith, setUp, setUpSaid as startOf, meansStarted as begun};
 ghost use Rattle.tracker.specs.Arrived.{on, arrive, arrivalSaid, meansReply};
 ghost use Rattle.tracker.specs.Request.{request, requestLeaves, meansRequested as requested};
@@ -12,9 +12,9 @@ pub use request::request_in;
 use rows::padded;
 use seats::Seat;
 use seats::listed;
+use wire::answers;
 
 mod lent;
-mod numbers;
 mod refused;
 mod request;
 mod signs;
@@ -38,13 +38,13 @@ pub enum Start {
 }
 
 impl Start {
-    // The refusal's number; 0 where it is none.
+    // The refusal's number; the plain answer's where it is none.
     pub fn number(self) -> u32
-        ensures { λ r. ⌜ r ≡ refusalNumber (startOf self) ⌝ }
+        ensures { λ r. ⌜ r ≡ answerNumber (startOf self) ⌝ }
     {
         match self {
-            Start::SetUp => numbers::NONE,
-            Start::Malformed => numbers::MALFORMED,
+            Start::SetUp => answers::PLAIN,
+            Start::Malformed => answers::MALFORMED,
         }
     }
 }
@@ -68,19 +68,19 @@ pub enum Verdict {
 }
 
 impl Verdict {
-    // The refusal's number; 0 where it is none.
+    // The refusal's number; the plain answer's where it is none.
     pub fn number(self) -> u32
-        ensures { λ r. ⌜ r ≡ refusalNumber (arrivalSaid self) ⌝ }
+        ensures { λ r. ⌜ r ≡ answerNumber (arrivalSaid self) ⌝ }
     {
         match self {
-            Verdict::New => numbers::NONE,
-            Verdict::Late => numbers::NONE,
-            Verdict::Duplicate => numbers::NONE,
-            Verdict::Heard => numbers::NONE,
-            Verdict::NoSuchChannel => numbers::NO_SUCH_CHANNEL,
-            Verdict::NumberTooLow => numbers::NUMBER_TOO_LOW,
-            Verdict::TableFull => numbers::TABLE_FULL,
-            Verdict::Malformed => numbers::MALFORMED,
+            Verdict::New => answers::PLAIN,
+            Verdict::Late => answers::PLAIN,
+            Verdict::Duplicate => answers::PLAIN,
+            Verdict::Heard => answers::PLAIN,
+            Verdict::NoSuchChannel => answers::NO_SUCH_CHANNEL,
+            Verdict::NumberTooLow => answers::NUMBER_TOO_LOW,
+            Verdict::TableFull => answers::TABLE_FULL,
+            Verdict::Malformed => answers::MALFORMED,
         }
     }
 }
@@ -104,16 +104,16 @@ impl Requested {
     // The most numbers that one request asks for.
     pub const BATCH: u64 = 200;
 
-    // The refusal's number; 0 where it is none.
+    // The refusal's number; the plain answer's where it is none.
     pub fn number(self) -> u32
-        ensures { λ r. ⌜ r ≡ refusalNumber (requested self) ⌝ }
+        ensures { λ r. ⌜ r ≡ answerNumber (requested self) ⌝ }
     {
         match self {
-            Requested::Written(_) => numbers::NONE,
-            Requested::NothingMissing => numbers::NONE,
-            Requested::Malformed => numbers::MALFORMED,
-            Requested::NoSuchChannel => numbers::NO_SUCH_CHANNEL,
-            Requested::OutputShort => numbers::OUTPUT_SHORT,
+            Requested::Written(_) => answers::PLAIN,
+            Requested::NothingMissing => answers::PLAIN,
+            Requested::Malformed => answers::MALFORMED,
+            Requested::NoSuchChannel => answers::NO_SUCH_CHANNEL,
+            Requested::OutputShort => answers::OUTPUT_SHORT,
         }
     }
 }

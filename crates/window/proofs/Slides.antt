@@ -12,7 +12,7 @@ use lib.ListN.{length, take, drop, getD, set, length-append, length-drop}
 use lib.Seq.{length-take-le, take-suc, drop-cons, set-at, getD-append-add, getD-drop, append-snoc}
 use Rattle.window.specs.Window.{slid, moved, stillHeld}
 
--- i bytes from a place on have moved to the front
+-- i bytes from an offset on have moved to the front
 abbrev pub sliding : List ℕ → ℕ → ℕ → List ℕ
 sliding s from i = take i (drop from s) ++ drop i s
 

@@ -31,7 +31,7 @@ pub fn fill(window: &mut [u8], held: usize) -> Held
     }
 }
 
-// Moves the bytes from a place up to another to the front, and answers how many they are; nothing where there are no such bytes.
+// Moves the bytes from an offset up to another to the front, and answers how many they are; nothing where there are no such bytes.
 pub fn slide(window: &mut [u8], from: usize, to: usize) -> usize
     ensures { λ r. ⌜ (now (window .exit) ≡ slid (now (window .entry)) from to) × (r ≡ moved (now (window .entry)) from to) ⌝ }
 {

@@ -9,7 +9,7 @@ use lib.Seq.{drop-drop, take-append-seam, length-take-le, drop-at, take-at, drop
 use Rattle.wire.specs.Bytes.{digits, part, splice, putAt, checksumOf}
 use Rattle.wire.proofs.Be.{part-length}
 use Rattle.wire.proofs.Digits.{length-digits}
-use Rattle.wire.proofs.Place.{placed-fits, length-splice, splice-more}
+use Rattle.wire.proofs.PutAt.{put-fits, length-splice, splice-more}
 use Rattle.writer.specs.Write.{header, withSum, frameOf}
 
 -- ---- the frame
@@ -24,7 +24,7 @@ behind o a b y z n e l h f =
     let i : length y ≡ length o = ap length e ∙ length-splice o 0 a (omega arith) in
     let s : splice (splice o 0 a) (0 + length a) b ≡ splice o 0 (a ++ b) = splice-more o 0 a b (omega arith) in
     let k : 0 + length a ≡ n = omega arith in
-    f ∙ placed-fits y n b (omega arith) ∙ rw (e, ← k) s
+    f ∙ put-fits y n b (omega arith) ∙ rw (e, ← k) s
 
 -- bytes behind those that the output starts with, as they stood
 kept-behind : (o a : List ℕ) (n k : ℕ) → length a ≡ n → n + k ≤ length o → splice o 0 a ≡ splice o 0 (a ++ take k (drop n o))
@@ -55,7 +55,7 @@ module _ (o : List ℕ) (t size l : ℕ) (gs : List ℕ) (k : l ≡ size + lengt
       let f : List ℕ = take (8 + size - 8) (drop 8 o) in
       let la : length a ≡ 4 = length-digits 4 t in
       let lb : length b ≡ 4 = length-digits 4 l in
-      let x2 : x ≡ splice o 0 a = ex ∙ placed-fits o 0 a (omega arith) in
+      let x2 : x ≡ splice o 0 a = ex ∙ put-fits o 0 a (omega arith) in
       let y2 : y ≡ splice o 0 d = behind o a b x y 4 x2 la (omega arith) ey in
       let ld : length d ≡ 8 = length-append a b ∙ omega arith in
       let n : 8 + size - 8 ≡ size = omega arith in

@@ -33,6 +33,7 @@ pub use snapshot::write_snapshot;
 pub use statistics::write_statistics;
 pub use trade::write_trade;
 pub use volume_index::write_volume_index;
+use wire::answers;
 
 // Why nothing is written: texts or groups that aren't exactly the stated fields; a field out of range, or a type that is not listed; a body above the limit; an output too short.
 pub enum Refusal {
@@ -48,10 +49,10 @@ impl Refusal {
         ensures { λ r. ⌜ r ≡ writerRefusal self ⌝ }
     {
         match self {
-            Refusal::NotItsLayout => 4,
-            Refusal::OutOfRange => 5,
-            Refusal::TooLong => 2,
-            Refusal::OutputShort => 6,
+            Refusal::NotItsLayout => answers::NOT_ITS_LAYOUT,
+            Refusal::OutOfRange => answers::OUT_OF_RANGE,
+            Refusal::TooLong => answers::TOO_LONG,
+            Refusal::OutputShort => answers::OUTPUT_SHORT,
         }
     }
 }

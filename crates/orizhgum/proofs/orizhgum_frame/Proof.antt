@@ -1,7 +1,7 @@
 use borrow.Author.Needs.{needs}
 use mathlib.Core.Path.{ap, sym, _∙_}
 use Rattle.frame.specs.Framing.{meansFramed}
-use Rattle.orizhgum.specs.Numbers.{frameAnswer}
+use Rattle.orizhgum.specs.Framed.{frameAnswer}
 use Rattle.orizhgum.proofs.orizhgum_frame.Statement.{statement}
 use Rattle.orizhgum.proofs.orizhgum_frame.Tie as tie
 

@@ -6,10 +6,10 @@ use Rattle.show.proofs.show_entries.Statement.{statement}
 use Rattle.show.proofs.show_entries.Tie as tie
 
 abbrev Inv-loop : tie.InvT-loop
-Inv-loop out₀ at table kind body count from₀ place₀ i₀ out from place i = length out ≡ length out₀
+Inv-loop out₀ at table kind body count from₀ offset₀ i₀ out from offset i = length out ≡ length out₀
 
 abbrev μ-loop : tie.MeasureT-loop
-μ-loop out₀ at table kind body count from₀ place₀ i₀ out from place i = count - i
+μ-loop out₀ at table kind body count from₀ offset₀ i₀ out from offset i = count - i
 
 pub show-entries-spec : {M : Type 1} → statement M
 show-entries-spec =

@@ -7,10 +7,10 @@ use Rattle.show.proofs.show_groups.Statement.{statement}
 use Rattle.show.proofs.show_groups.Tie as tie
 
 abbrev Inv-loop : tie.InvT-loop
-Inv-loop out₀ at table kind all count width from₀ place₀ i₀ t13 out from place i = (from ≤ length all) × (length out ≡ length out₀)
+Inv-loop out₀ at table kind all count width from₀ offset₀ i₀ t13 out from offset i = (from ≤ length all) × (length out ≡ length out₀)
 
 abbrev μ-loop : tie.MeasureT-loop
-μ-loop out₀ at table kind all count width from₀ place₀ i₀ t13 out from place i = count - i
+μ-loop out₀ at table kind all count width from₀ offset₀ i₀ t13 out from offset i = count - i
 
 loop-again : tie.Need-loop-again Inv-loop μ-loop
 loop-again c = (omega arith, search needs)

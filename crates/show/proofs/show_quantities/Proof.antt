@@ -6,10 +6,10 @@ use Rattle.show.proofs.show_quantities.Statement.{statement}
 use Rattle.show.proofs.show_quantities.Tie as tie
 
 abbrev Inv-loop : tie.InvT-loop
-Inv-loop out₀ at table body from to place₀ p₀ number₀ out place p number = length out ≡ length out₀
+Inv-loop out₀ at table body from to offset₀ p₀ number₀ out offset p number = length out ≡ length out₀
 
 abbrev μ-loop : tie.MeasureT-loop
-μ-loop out₀ at table body from to place₀ p₀ number₀ out place p number = to - p
+μ-loop out₀ at table body from to offset₀ p₀ number₀ out offset p number = to - p
 
 pub show-quantities-spec : {M : Type 1} → statement M
 show-quantities-spec =

@@ -6,10 +6,10 @@ use Rattle.cases.proofs.asking.numbers.Statement.{statement}
 use Rattle.cases.proofs.asking.numbers.Tie as tie
 
 abbrev Inv-loop : tie.InvT-loop
-Inv-loop lines₀ at out place₀ i₀ t7 lines place i = (i ≤ length out) × (length lines ≡ length lines₀)
+Inv-loop lines₀ at out offset₀ i₀ t7 lines offset i = (i ≤ length out) × (length lines ≡ length lines₀)
 
 abbrev μ-loop : tie.MeasureT-loop
-μ-loop lines₀ at out place₀ i₀ t7 lines place i = length out - i
+μ-loop lines₀ at out offset₀ i₀ t7 lines offset i = length out - i
 
 pub numbers-spec : {M : Type 1} → statement M
 numbers-spec =

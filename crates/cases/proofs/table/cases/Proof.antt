@@ -6,10 +6,10 @@ use Rattle.cases.proofs.table.cases.Statement.{statement}
 use Rattle.cases.proofs.table.cases.Tie as tie
 
 abbrev Inv-loop : tie.InvT-loop
-Inv-loop lines₀ at names t₀ place₀ i₀ lines t place i = (i ≤ 7) × (length lines ≡ length lines₀)
+Inv-loop lines₀ at names t₀ offset₀ i₀ lines t offset i = (i ≤ 7) × (length lines ≡ length lines₀)
 
 abbrev μ-loop : tie.MeasureT-loop
-μ-loop lines₀ at names t₀ place₀ i₀ lines t place i = 7 - i
+μ-loop lines₀ at names t₀ offset₀ i₀ lines t offset i = 7 - i
 
 pub cases-spec : {M : Type 1} → statement M
 cases-spec =

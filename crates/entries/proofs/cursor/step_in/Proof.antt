@@ -11,14 +11,14 @@ use Rattle.entries.proofs.Entries.{fits, step-none, step-refused, step-
 use Rattle.entries.proofs.cursor.step_in.Statement.{statement}
 use Rattle.entries.proofs.cursor.step_in.Tie as tie
 
-judged : (c : tie.After-judge) → meansVerdict (c .judge .result) ≡ judgeGroups (entryGroup (meansEntries (c .before .before .before .before .args .e))) (c .before .before .before .before .args .body .now) (c .before .before .before .before .args .place) 1
+judged : (c : tie.After-judge) → meansVerdict (c .judge .result) ≡ judgeGroups (entryGroup (meansEntries (c .before .before .before .before .args .e))) (c .before .before .before .before .args .body .now) (c .before .before .before .before .args .offset) 1
 judged c = rw (c .before .groups .ensures) at (c .judge .ensures)
 
-good : (c : tie.After-enum-told) → judgeGroups (entryGroup (meansEntries (c .before .before .before .before .before .before .args .e))) (c .before .before .before .before .before .before .args .body .now) (c .before .before .before .before .before .before .args .place) 1 ≡ accepted tt
+good : (c : tie.After-enum-told) → judgeGroups (entryGroup (meansEntries (c .before .before .before .before .before .before .args .e))) (c .before .before .before .before .before .before .args .body .now) (c .before .before .before .before .before .before .args .offset) 1 ≡ accepted tt
 good c = sym (judged (c .before .before)) ∙ ap meansVerdict (c .enum-told .given .1)
 
 returns : tie.Need-returns
-returns c = sym (step-none (meansEntries (c .before .before .args .e)) (c .before .before .args .body .now) (c .before .before .args .place) (c .before .before .args .left) (c .if1 .taken))
+returns c = sym (step-none (meansEntries (c .before .before .args .e)) (c .before .before .args .body .now) (c .before .before .args .offset) (c .before .before .args .left) (c .if1 .taken))
 
 entry-at-requires : tie.Need-entry-at-requires
 entry-at-requires c κs = fits _ _ _ _ (good c)
@@ -33,13 +33,13 @@ returns-2 c =
     (found
     (record {
       entry = c .before .entry-at .ensures i;
-      onward = record { place = c .behind .ensures i; left = c .before .before .before .before .before .before .before .before .args .left - 1 };
+      onward = record { offset = c .behind .ensures i; left = c .before .before .before .before .before .before .before .before .args .left - 1 };
     })))
-    ∙ sym (step-found (meansEntries (c .before .before .before .before .before .before .before .before .args .e)) (c .before .before .before .before .before .before .before .before .args .body .now) (c .before .before .before .before .before .before .before .before .args .place) (c .before .before .before .before .before .before .before .before .args .left) (c .before .before .before .before .before .before .if1 .left) (good (c .before .before)))
+    ∙ sym (step-found (meansEntries (c .before .before .before .before .before .before .before .before .args .e)) (c .before .before .before .before .before .before .before .before .args .body .now) (c .before .before .before .before .before .before .before .before .args .offset) (c .before .before .before .before .before .before .before .before .args .left) (c .before .before .before .before .before .before .if1 .left) (good (c .before .before)))
 
 returns-3 : tie.Need-returns-3
 returns-3 c =
-    sym (step-refused (meansEntries (c .before .before .before .before .before .before .before .args .e)) (c .before .before .before .before .before .before .before .args .body .now) (c .before .before .before .before .before .before .before .args .place) (c .before .before .before .before .before .before .before .args .left) (c .before .before .before .before .before .if1 .left) (sym (judged (c .before .before .before)) ∙ ap meansVerdict (c .before .x .given .1)))
+    sym (step-refused (meansEntries (c .before .before .before .before .before .before .before .args .e)) (c .before .before .before .before .before .before .before .args .body .now) (c .before .before .before .before .before .before .before .args .offset) (c .before .before .before .before .before .before .before .args .left) (c .before .before .before .before .before .if1 .left) (sym (judged (c .before .before .before)) ∙ ap meansVerdict (c .before .x .given .1)))
 
 pub step-in-spec : {M : Type 1} → statement M
 step-in-spec =

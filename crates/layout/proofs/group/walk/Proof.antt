@@ -8,7 +8,7 @@ use Rattle.layout.specs.Layout.{size}
 use Rattle.layout.specs.Paper.{meansGroups}
 use Rattle.layout.specs.Group as of
 use Rattle.layout.specs.Group.{fit, nextOffset}
-use Rattle.layout.proofs.Walk.{fit-none, fit-short, fit-behind, fit-on, place-step, place-none, shown-here, stops, ends}
+use Rattle.layout.proofs.Walk.{fit-none, fit-short, fit-behind, fit-on, offset-step, offset-none, shown-here, stops, ends}
 use Rattle.layout.proofs.group.walk.Statement.{statement}
 use Rattle.layout.proofs.group.walk.Tie as tie
 
@@ -71,7 +71,7 @@ loop-again c =
           o .inv .1 .1 .0,
           (
             o .inv .1 .1 .1 .0 ∙ fit-on (meansGroups (a .g)) (now (a .s)) (o .p) (o .left) t (omega arith) ∙ rw (← e),
-            o .inv .1 .1 .1 .1 ∙ place-step (meansGroups (a .g)) (now (a .s)) (o .p) (o .left) t ∙ rw (← e),
+            o .inv .1 .1 .1 .1 ∙ offset-step (meansGroups (a .g)) (now (a .s)) (o .p) (o .left) t ∙ rw (← e),
           ),
         ),
       ),
@@ -82,7 +82,7 @@ returns-4 c =
     let a = c .before .before .before .before .args in
     let o = c .before .loop in
     let t = c .loop-test .left in
-    ends (meansGroups (a .g)) (now (a .s)) (a .at) (a .k) (o .inv .1 .1 .1 .0 ∙ fit-none _ _ _ _ t) (o .inv .1 .1 .1 .1 ∙ place-none _ _ _ _ t)
+    ends (meansGroups (a .g)) (now (a .s)) (a .at) (a .k) (o .inv .1 .1 .1 .0 ∙ fit-none _ _ _ _ t) (o .inv .1 .1 .1 .1 ∙ offset-none _ _ _ _ t)
 
 pub walk-spec : {M : Type 1} → statement M
 walk-spec =

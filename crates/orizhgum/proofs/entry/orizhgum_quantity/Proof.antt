@@ -2,8 +2,8 @@ use borrow.Author.Needs.{needs}
 use mathlib.Core.Path.{refl}
 use Rattle.record.proofs.Tell.{kept}
 use Rattle.entries.specs.Paper.{meansQuantity}
-use Rattle.orizhgum.specs.Entries.{quantityAnswer}
-use Rattle.orizhgum.proofs.Answered.{answers}
+use Rattle.orizhgum.specs.Quantity.{quantityAnswer}
+use Rattle.wire.proofs.Answer.{answers}
 use Rattle.orizhgum.proofs.entry.orizhgum_quantity.Statement.{statement}
 use Rattle.orizhgum.proofs.entry.orizhgum_quantity.Tie as tie
 

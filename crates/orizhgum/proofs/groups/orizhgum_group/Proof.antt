@@ -7,7 +7,7 @@ use Rattle.record.specs.Paper as record-paper
 use Rattle.record.specs.declared.group.GroupAnswer.{GroupAnswer}
 use Rattle.record.proofs.Tell.{with-texts}
 use Rattle.orizhgum.specs.Groups.{groupAnswer}
-use Rattle.orizhgum.proofs.Answered.{answers}
+use Rattle.wire.proofs.Answer.{answers}
 use Rattle.orizhgum.proofs.groups.orizhgum_group.Statement.{statement}
 use Rattle.orizhgum.proofs.groups.orizhgum_group.Tie as tie
 

@@ -5,8 +5,8 @@ use mathlib.Core.Path.{sym, _∙_}
 use Rattle.wire.specs.Answer.{Answer}
 use Rattle.layout.specs.Layout.{named}
 use Rattle.layout.specs.Paper.{meansVerdict}
-use Rattle.orizhgum.specs.Numbers.{answerNumber}
-use Rattle.orizhgum.proofs.Answered.{answers}
+use Rattle.wire.specs.Number.{answerNumber}
+use Rattle.wire.proofs.Answer.{answers}
 use Rattle.orizhgum.proofs.Shown.{unlisted-judged, listed-judged}
 use Rattle.orizhgum.proofs.records.orizhgum_judge.Statement.{statement}
 use Rattle.orizhgum.proofs.records.orizhgum_judge.Tie as tie

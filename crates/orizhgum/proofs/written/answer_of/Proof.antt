@@ -2,7 +2,7 @@ use borrow.Author.Needs.{needs}
 use mathlib.Core.Path.{refl}
 use Rattle.writer.specs.Paper.{meansWritten}
 use Rattle.orizhgum.specs.Written.{writeAnswer}
-use Rattle.orizhgum.proofs.Answered.{answers}
+use Rattle.wire.proofs.Answer.{answers}
 use Rattle.orizhgum.proofs.written.answer_of.Statement.{statement}
 use Rattle.orizhgum.proofs.written.answer_of.Tie as tie
 

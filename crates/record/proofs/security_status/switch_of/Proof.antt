@@ -4,7 +4,7 @@ use mathlib.Core.Path.{refl, _∙_}
 use mathlib.Core.List.{[], _∷_}
 use lib.IntN.{pos}
 use Rattle.layout.specs.Layout.{securityStatus, switches, size, values, texts}
-use Rattle.layout.proofs.Walk.{place-flat}
+use Rattle.layout.proofs.Walk.{offset-flat}
 use Rattle.record.proofs.Grouped.{group-found, group-none}
 use Rattle.record.proofs.security_status.switch_of.Statement.{statement}
 use Rattle.record.proofs.security_status.switch_of.Tie as tie
@@ -15,7 +15,7 @@ returns c =
     let s = now (c .before .before .before .before .before .before .args .body) in
     let i = c .before .before .before .before .before .before .args .i in
     group-found securityStatus switches s i refl (c .before .before .before .before .before .before .pre) (rw (← c .before .before .before .before .be4 .ensures) (c .before .before .before .if1 .taken))
-    (place-flat switches s refl 34 i)
+    (offset-flat switches s refl 34 i)
     (λ j. pos (c .before .before .be2 .ensures j) ∷ pos (c .before .be22 .ensures j) ∷ [])
     {t = []} refl (c .no-texts .ensures .0) (c .no-texts .ensures .1)
 

@@ -8,7 +8,7 @@ use lib.IntN.{pos}
 use lib.ListN.{length}
 use Rattle.layout.specs.Layout.{statistics, streams, size, values}
 use Rattle.layout.specs.Group.{groupOffset}
-use Rattle.layout.proofs.Walk.{place-flat}
+use Rattle.layout.proofs.Walk.{offset-flat}
 use Rattle.record.proofs.Gathered.{stream-texts}
 use Rattle.record.proofs.Grouped.{group-found, group-none, group-there}
 use Rattle.record.proofs.statistics.stream_of.Statement.{statement}
@@ -20,7 +20,7 @@ unfolding size
 there c =
     let s = now (c .before .before .before .args .body) in
     let i = c .before .before .before .args .i in
-    let p : groupOffset streams s 14 i ≡ 14 + 15 * i = place-flat streams s refl 14 i in
+    let p : groupOffset streams s 14 i ≡ 14 + 15 * i = offset-flat streams s refl 14 i in
     rw p at (group-there statistics streams s i refl (c .before .before .before .pre) (rw (← c .before .be4 .ensures) (c .if1 .taken)))
 
 gather-requires : tie.Need-gather-requires
@@ -32,7 +32,7 @@ returns c =
     let s = now (c .before .before .before .before .before .args .body) in
     let i = c .before .before .before .before .before .args .i in
     group-found statistics streams s i refl (c .before .before .before .before .before .pre) (rw (← c .before .before .before .be4 .ensures) (c .before .before .if1 .taken))
-    (place-flat streams s refl 14 i)
+    (offset-flat streams s refl 14 i)
     (λ j. pos (c .before .be42 .ensures j) ∷ [])
     (stream-texts s (14 + 15 * i)) (c .gather .ensures .0) (c .gather .ensures .1)
 

@@ -8,7 +8,7 @@ use lib.ListN.{length, length-append}
 use Rattle.wire.specs.Bytes.{part, putAt}
 use Rattle.wire.proofs.Be.{part-length}
 use Rattle.record.specs.Asked.{zeros}
-use Rattle.record.proofs.Gathered.{both-placed}
+use Rattle.record.proofs.Gathered.{both-put}
 use Rattle.record.proofs.texts.gather.Statement.{statement}
 use Rattle.record.proofs.texts.gather.Tie as tie
 
@@ -23,7 +23,7 @@ returns c =
       c .before .copy2 .ensures
           ∙ ap (λ (o : List ℕ). putAt o (g .m) y) (c .before .before .before .before .before .copy .ensures)
           ∙ ap (λ (i : ℕ). putAt (putAt (zeros 24) 0 x) i y) (sym l)
-          ∙ both-placed x y (omega arith),
+          ∙ both-put x y (omega arith),
       omega (arith, length-append x y),
     )
 

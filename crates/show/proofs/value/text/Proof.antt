@@ -6,10 +6,10 @@ use Rattle.show.proofs.value.text.Statement.{statement}
 use Rattle.show.proofs.value.text.Tie as tie
 
 abbrev Inv-loop : tie.InvT-loop
-Inv-loop out₀ at bytes n place₀ i₀ out place i = (i ≤ n) × (length out ≡ length out₀)
+Inv-loop out₀ at bytes n offset₀ i₀ out offset i = (i ≤ n) × (length out ≡ length out₀)
 
 abbrev μ-loop : tie.MeasureT-loop
-μ-loop out₀ at bytes n place₀ i₀ out place i = n - i
+μ-loop out₀ at bytes n offset₀ i₀ out offset i = n - i
 
 pub text-spec : {M : Type 1} → statement M
 text-spec =

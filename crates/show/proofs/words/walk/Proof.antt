@@ -6,10 +6,10 @@ use Rattle.show.proofs.words.walk.Statement.{statement}
 use Rattle.show.proofs.words.walk.Tie as tie
 
 abbrev Inv-loop : tie.InvT-loop
-Inv-loop out₀ at table from fields kind texts place₀ i₀ k₀ out place i k = (k ≤ i) × (length out ≡ length out₀)
+Inv-loop out₀ at table from fields kind texts offset₀ i₀ k₀ out offset i k = (k ≤ i) × (length out ≡ length out₀)
 
 abbrev μ-loop : tie.MeasureT-loop
-μ-loop out₀ at table from fields kind texts place₀ i₀ k₀ out place i k = length table - i
+μ-loop out₀ at table from fields kind texts offset₀ i₀ k₀ out offset i k = length table - i
 
 pub walk-spec : {M : Type 1} → statement M
 walk-spec =

@@ -1,8 +1,0 @@
-use Rattle.orizhgum.proofs.next.none.Statement.{statement}
-use Rattle.orizhgum.proofs.next.none.Tie as tie
-
-returns : tie.Need-returns
-returns c = rw (c .no-entry .ensures)
-
-pub none-spec : {M : Type 1} → statement M
-none-spec = tie.close (tie.spec (λ c κs. tt) returns)
