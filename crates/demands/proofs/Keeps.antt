@@ -17,6 +17,7 @@ use Rattle.tracker.specs.declared.Tracker.{Tracker}
 use Rattle.seats.specs.Places.{span}
 use Rattle.tracker.proofs.Seated.{well-row}
 use Rattle.seats.specs.Arrays.{Arrays}
+use Rattle.seats.proofs.Heads.{marks-at}
 use Rattle.seats.specs.Rules.{allZero, soundRow, soundRows, soundChannels, marks, blank, unused, sound}
 use Rattle.tracker.specs.Places.{arraysOf}
 use Rattle.tracker.specs.Rules.{wellFormed}
@@ -184,14 +185,6 @@ module _ (a : Arrays) where
       rw (le-leb lo (getD (a .numbers) i 0) (low (omega arith)), g, on)
 
 module _ (es : List ℕ) where
-  marks-at : (i n j : ℕ) → marks es i n ≡ true → j < n → getD es (i + j) 0 ≤ 1
-  unfolding marks
-  marks-at i zero j e h = absurd (omega arith)
-  marks-at i (suc n) zero e h = let z : i + 0 ≡ i = omega arith in rw z (leb-true (getD es i 0) 1 (and-split (leb (getD es i 0) 1) _ e .0))
-  marks-at i (suc n) (suc j) e h =
-      let z : i + suc j ≡ suc i + j = omega arith in
-      rw z (marks-at (suc i) n j (and-split (leb (getD es i 0) 1) _ e .1) (omega arith))
-
   marks-all : (i n : ℕ) → ((j : ℕ) → j < n → getD es (i + j) 0 ≤ 1) → marks es i n ≡ true
   unfolding marks
   marks-all i zero h = refl

@@ -5,10 +5,9 @@ ghost use mathlib.Core.List.{[], _∷_};
 ghost use Prim.Native.Nat.{_<_};
 ghost use lib.IntN.{pos};
 ghost use Rattle.wire.specs.Answer.{accepted};
-ghost use Rattle.wire.specs.Bytes.{beAt};
 ghost use Rattle.layout.specs.Kind.{among};
-ghost use Rattle.layout.specs.Layout.{ofSnapshot, ofIndex, entryGroup, entries, commonSize};
-ghost use Rattle.layout.specs.Group.{fit, nextOffset, groupOffset};
+ghost use Rattle.layout.specs.Layout.{ofSnapshot, ofIndex, entryGroup, entries};
+ghost use Rattle.layout.specs.Group.{fit, nextOffset, groupOffset, countAt};
 ghost use Rattle.layout.specs.Paper.{meansGroups};
 ghost use Rattle.entries.specs.Entry.{entriesStart, levels, prices, boths, indexPrices, same, saysIn, entryAt, entryIn, entryOf, quantityAt, quantityIn, quantityOf};
 ghost use Rattle.entries.specs.Entry as of;
@@ -288,7 +287,7 @@ fn quantity_at(e: Entries, s: &[u8], p: usize, j: u32) -> AskedQuantity
 
 // Where entry i stands, of entries that are all there.
 fn offset_of(e: Entries, s: &[u8], i: u32) -> usize
-    requires { ⌜ (fit (entryGroup (meansEntries e)) (now s) entriesStart (beAt (now s) commonSize 4) ≡ true) × (i < beAt (now s) commonSize 4) ⌝ }
+    requires { ⌜ (fit (entryGroup (meansEntries e)) (now s) entriesStart (countAt (entries (meansEntries e)) entriesStart (now s)) ≡ true) × (i < countAt (entries (meansEntries e)) entriesStart (now s)) ⌝ }
     ensures { λ r. ⌜ (r ≡ groupOffset (entryGroup (meansEntries e)) (now (s .entry)) entriesStart i) × (fit (entryGroup (meansEntries e)) (now (s .entry)) r 1 ≡ true) ⌝ }
 {
     layout::offset_from(groups(e), s, START, i)
@@ -296,7 +295,7 @@ fn offset_of(e: Entries, s: &[u8], i: u32) -> usize
 
 // Entry i of entries that are all there.
 fn entry_in(e: Entries, s: &[u8], i: u32) -> AskedEntry
-    requires { ⌜ fit (entryGroup (meansEntries e)) (now s) entriesStart (beAt (now s) commonSize 4) ≡ true ⌝ }
+    requires { ⌜ fit (entryGroup (meansEntries e)) (now s) entriesStart (countAt (entries (meansEntries e)) entriesStart (now s)) ≡ true ⌝ }
     ensures { λ r. ⌜ meansAskedEntry r ≡ accepted (entryIn (entries (meansEntries e)) entriesStart (now (s .entry)) i) ⌝ }
 {
     if i < wire::be4(s, COUNT) {
@@ -309,7 +308,7 @@ fn entry_in(e: Entries, s: &[u8], i: u32) -> AskedEntry
 
 // Shown quantity j of entry i, of entries that are all there.
 fn quantity_in(e: Entries, s: &[u8], i: u32, j: u32) -> AskedQuantity
-    requires { ⌜ fit (entryGroup (meansEntries e)) (now s) entriesStart (beAt (now s) commonSize 4) ≡ true ⌝ }
+    requires { ⌜ fit (entryGroup (meansEntries e)) (now s) entriesStart (countAt (entries (meansEntries e)) entriesStart (now s)) ≡ true ⌝ }
     ensures { λ r. ⌜ meansQuantity r ≡ accepted (quantityIn (entries (meansEntries e)) entriesStart (now (s .entry)) i j) ⌝ }
 {
     if i < wire::be4(s, COUNT) {

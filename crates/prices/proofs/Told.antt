@@ -7,6 +7,7 @@ use lib.IntN.{ℤ, pos}
 use mir.Syntax.{w64}
 use mir.Val.{toZ}
 use Rattle.wire.specs.Answer.{Answer, accepted}
+use Rattle.wire.specs.Number.{plain, noSuchEntryNumber}
 use Rattle.wire.specs.Bytes.{beAt}
 use Rattle.layout.specs.Layout.{Entries, ofSnapshot, ofIndex, entryGroup, entries, values}
 use Rattle.layout.specs.Group.{nextOffset, judgeGroups}
@@ -41,7 +42,7 @@ module _ (e : Entries) (s : List ℕ) (p k : ℕ) (z : ℤ) where
   abbrev Answers : StepAnswer → ℤ → Type 0
   Answers r y = (r ≡ stepAnswer step (record { offset = p; left = k })) × (y ≡ pricedLeft (entryFound step) z)
 
-  pub none-left : {r : StepAnswer} → k ≡ 0 → r ≡ record { answer = 101; entry = noEntry; next = record { offset = p; left = k } } → Answers r z
+  pub none-left : {r : StepAnswer} → k ≡ 0 → r ≡ record { answer = noSuchEntryNumber; entry = noEntry; next = record { offset = p; left = k } } → Answers r z
   unfolding stepAnswer pricedLeft
   none-left h f = rw (step-none e s p k h) (f, refl)
 
@@ -50,6 +51,6 @@ module _ (e : Entries) (s : List ℕ) (p k : ℕ) (z : ℤ) where
     unfolding stepAnswer pricedLeft
     refused-there x j d f = rw (step-refused e s p k h (sym j ∙ ap meansVerdict d)) (f, refl)
 
-    pub stepped-over : {r : StepAnswer} {y : ℤ} → judgeGroups (entryGroup e) s p 1 ≡ accepted tt → (r ≡ record { answer = 0; entry = entryFromC (entryAt e s p); next = record { offset = nextOffset (entryGroup e) s p; left = k - 1 } }) × (y ≡ priceLeft (priceOf (entryAt e s p .says)) z) → Answers r y
+    pub stepped-over : {r : StepAnswer} {y : ℤ} → judgeGroups (entryGroup e) s p 1 ≡ accepted tt → (r ≡ record { answer = plain; entry = entryFromC (entryAt e s p); next = record { offset = nextOffset (entryGroup e) s p; left = k - 1 } }) × (y ≡ priceLeft (priceOf (entryAt e s p .says)) z) → Answers r y
     unfolding stepAnswer pricedLeft
     stepped-over j f = rw (step-found e s p k h j) f

@@ -1,6 +1,7 @@
 // The step that gives an entry with its price. A chain of its own, straight to the answer: no entry is built as one of seven things on the way.
 ghost use mathlib.Core.Path.{_≡_};
 ghost use mathlib.Core.Bool.{true, cond};
+ghost use Rattle.wire.specs.Number.{plain};
 ghost use Rattle.layout.specs.Layout.{ofSnapshot, ofIndex, snapshotEntries, indexEntries, entries, named, values};
 ghost use Rattle.layout.specs.Group.{fit, nextOffset};
 ghost use Rattle.entries.specs.Entry.{same, levelSaid, entryAt, stepIn, step, entryFound};
@@ -135,7 +136,7 @@ fn none(answer: u32, offset: usize, left: u32) -> StepAnswer
 // The step over an entry that is there, with some left behind it.
 fn over_snapshot(s: &[u8], p: usize, left: u32, price: &mut i64) -> StepAnswer
     requires { ⌜ fit snapshotEntries (now s) p 1 ≡ true ⌝ }
-    ensures { λ r. ⌜ r ≡ record { answer = 0; entry = entryFromC (entryAt ofSnapshot (now (s .entry)) p); next = record { offset = nextOffset snapshotEntries (now (s .entry)) p; left = left } } ⌝ }
+    ensures { λ r. ⌜ r ≡ record { answer = plain; entry = entryFromC (entryAt ofSnapshot (now (s .entry)) p); next = record { offset = nextOffset snapshotEntries (now (s .entry)) p; left = left } } ⌝ }
     ensures { λ r. ⌜ now (price .exit) ≡ priceLeft (priceOf (entryAt ofSnapshot (now (s .entry)) p .says)) (now (price .entry)) ⌝ }
 {
     let q = p + entry::WIDTH;
@@ -150,7 +151,7 @@ fn over_snapshot(s: &[u8], p: usize, left: u32, price: &mut i64) -> StepAnswer
 
 fn over_index(s: &[u8], p: usize, left: u32, price: &mut i64) -> StepAnswer
     requires { ⌜ fit indexEntries (now s) p 1 ≡ true ⌝ }
-    ensures { λ r. ⌜ r ≡ record { answer = 0; entry = entryFromC (entryAt ofIndex (now (s .entry)) p); next = record { offset = nextOffset indexEntries (now (s .entry)) p; left = left } } ⌝ }
+    ensures { λ r. ⌜ r ≡ record { answer = plain; entry = entryFromC (entryAt ofIndex (now (s .entry)) p); next = record { offset = nextOffset indexEntries (now (s .entry)) p; left = left } } ⌝ }
     ensures { λ r. ⌜ now (price .exit) ≡ priceLeft (priceOf (entryAt ofIndex (now (s .entry)) p .says)) (now (price .entry)) ⌝ }
 {
     let q = p + index_entry::WIDTH;
