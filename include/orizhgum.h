@@ -1,7 +1,8 @@
 /* Orizhgum: frames, records, entries, tracker and writer of the Shenzhen binary market data gateway, for a C or C++ host.
  *
- * Every call is proved against its definition, for every input, and answers with a number: 0 is the plain answer, 1 to 99 are
- * the refusals, 100 and up the other answers. Look at it first. Beside a refusal, and beside ORIZHGUM_NO_SUCH_ENTRY, every
+ * Every call of the archive is proved against its definition, for every input; orizhgum_tick, orizhgum_heard and
+ * orizhgum_request are inline functions here, which hand a tracker's arrays to such calls. A call answers with a number: 0 is the
+ * plain answer, 1 to 99 are the refusals, 100 and up the other answers. Look at it first. Beside a refusal, and beside ORIZHGUM_NO_SUCH_ENTRY, every
  * number and text is 0 and what was lent is as it stood, but for the cursor of a step, which comes back as it was handed in.
  *
  * Calls are reentrant: there is no state but what the host lends, and no heap. Threads may call at the same time, as long as
@@ -28,9 +29,9 @@ extern "C" {
 /* ---- the version of this header and of the archive that goes with it */
 
 #define ORIZHGUM_VERSION_MAJOR 0
-#define ORIZHGUM_VERSION_MINOR 1
+#define ORIZHGUM_VERSION_MINOR 2
 #define ORIZHGUM_VERSION_PATCH 0
-#define ORIZHGUM_VERSION "0.1.0"
+#define ORIZHGUM_VERSION "0.2.0"
 
 /* ---- sizes in bytes, and decimals */
 

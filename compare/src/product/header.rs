@@ -542,7 +542,7 @@ fn sizes() -> String {
 }
 
 /// The version's three numbers.
-const VERSION: [usize; 3] = [0, 1, 0];
+const VERSION: [usize; 3] = [0, 2, 0];
 
 /// The version as one text.
 pub fn version() -> String {

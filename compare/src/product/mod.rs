@@ -1,5 +1,5 @@
-//! The product behind the trait: its C calls, with the answers in document
-//! 01's terms. The header has no call that writes an unlisted type: that is
+//! The product behind the trait: its C calls, with the answers in the
+//! rules' terms. The header has no call that writes an unlisted type: that is
 //! refused here.
 
 pub mod header;

@@ -62,7 +62,7 @@ encode (k ∷ ks) zs ts = fieldBytes (form k) zs ts ++ encode ks (numbersBehind 
 unfoldable pub body : Message → List ℤ → List ℕ → List ℕ → List ℕ
 body m zs ts gs = encode (fields m) zs ts ++ gs
 
--- L
+-- F2: how many bytes the body has
 abbrev pub bodyLength : Message → List ℕ → ℕ
 bodyLength m gs = size (fields m) + length gs
 

@@ -27,7 +27,7 @@ numbersOf r = numbersRead (meansRecord r)
 unfoldable pub verdictOf : Message → List ℤ → List ℕ → List ℕ → Answer Unit
 verdictOf m zs ts gs = verdict (exact m zs ts gs) (allIn m zs gs)
 
--- W1: what an output holds for the fields alone: the fields, where texts and output have just their lengths; else it stays as it stood
+-- W2: what an output holds for the fields alone: the fields, where texts and output have just their lengths; else it stays as it stood
 unfoldable pub putFields : Message → List ℤ → List ℕ → List ℕ → List ℕ
 putFields m zs ts out =
     cond (eqb (length ts) (textSize (fields m))) (cond (eqb (length out) (size (fields m))) (encode (fields m) zs ts) out) out

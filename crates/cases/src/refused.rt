@@ -89,7 +89,7 @@ fn first(s: &[u8], n: usize) -> &[u8] {
 // Writes a case to the first bytes of an output. The texts are spaces; the first group, as a switch, has yes/no 2.
 fn tried(c: Case, out: &mut [u8]) -> Written {
     let r = c.record;
-    let texts = [b' '; 24];
+    let texts = [b' '; layout::TEXT_ROOM];
     let mut groups = [0u8; 16380];
     groups[3] = 2;
     let room = c.room;

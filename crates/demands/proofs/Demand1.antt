@@ -44,12 +44,13 @@ use Rattle.tracker.proofs.Fitting.{request-length}
 use Rattle.demands.specs.Play.{channelOf}
 use Rattle.demands.proofs.Calls.{frame-read-as, read-frame-as, read-as, judge-as, group-of-as, entry-of-as, quantity-of-as, step-as, write-as, set-up-as, arrives-as, request-as}
 use Rattle.demands.specs.Rules.{_if_, Judged, success, later, OrNone, Kept}
-use Rattle.demands.specs.Conditions.{L, behindOf, fieldsEnd, groupsIn, entriesIn, quantitiesIn, leftIn, groupCount, entryCount, shownCount, entriesLeft, EntryLacks, EntryStrays, Falls, Keeps, NotIn, Low}
+use Rattle.demands.specs.Conditions.{L, behindOf, fieldsEnd, groupsIn, entriesIn, quantitiesIn, leftIn, groupsCounted, entryCount, shownCount, entriesLeft, EntryLacks, EntryStrays, Falls, Keeps, NotIn, Low}
 use Rattle.demands.specs.Demand1.{frameRules, bodyRules, readerRules, stepRules, writerRules, setUpRules, arrivalRules, requestRules}
 use Rattle.demands.specs.Receiver.{Demand1}
 use Rattle.demands.proofs.Checked.{checked}
 use Rattle.demands.proofs.Rules.{above, answered, tested, Alike, both-accepted, both-refused, alike, in-turn, by-reading, by-body, by-judging}
 use Rattle.demands.proofs.Keeps.{keeps-yes, keeps-sound}
+use Rattle.demands.proofs.Without.{no-body, no-groups, bytes-none, body-none, asked-none, as-defined}
 use Rattle.demands.proofs.Out.{only-out, only-in}
 use Rattle.demands.proofs.Played.{place-number, place-found}
 
@@ -94,7 +95,7 @@ by-bytes s = in-turn (readFrame s .answer) (by-frame s) (refused-on s) (accepted
 
 -- ---- by position
 
--- "one not below the count"
+-- a position that is not below the count
 below-by : {A : Type 0} (i n : ℕ) (a : A) (b : Bool) → ltb i n ≡ b → (cond b (found a) noSuchEntry ≡ noSuchEntry) ↔ (n ≤ i)
 below-by i n a true e = (λ q. let z : _≡_ {A = ℕ} 0 1 = cc in absurd (omega arith), λ h. absurd (above h (ltb-true i n e)))
 below-by i n a false e = (λ q. ltb-false i n e, λ h. refl)
@@ -133,7 +134,7 @@ group-none (listed m) b i x e =
     rw a at (group-in (behind m) (groupsStart m) b i)
 group-none unlisted b i x e = (λ f. omega arith, λ h. cc)
 
-pub group-asked : (type : ℕ) (b : List ℕ) (i : ℕ) → OrNone (bodyRules type b) noSuchEntry (groupCount type b ≤ i) (groupOf type b i .answer)
+pub group-asked : (type : ℕ) (b : List ℕ) (i : ℕ) → OrNone (bodyRules type b) noSuchEntry (groupsCounted type b ≤ i) (groupOf type b i .answer)
 unfolding groupOf
 group-asked type b i =
     record {
@@ -482,7 +483,12 @@ demand1 =
       read-frame = λ s r c. every (λ (a : WithTexts record-of.Reading). Judged (readerRules s) (a .answer)) (read-frame-as c) (by-bytes s);
       read = λ type b r c. every (λ (a : WithTexts record-of.Reading). Judged (bodyRules type b) (a .answer)) (read-as c) (by-type type b);
       judge = λ type b r c. rw (judge-as c) (by-body (named type) b);
-      group-of = λ type b i r c. every (λ (a : WithTexts (Asked (List ℤ))). OrNone (bodyRules type b) noSuchEntry (groupCount type b ≤ i) (a .answer)) (group-of-as c) (group-asked type b i);
+      no-body = no-body;
+      no-groups = no-groups;
+      no-texts = λ s r c. as-defined (read-frame-as c) (bytes-none s);
+      no-texts-of = λ type b r c. as-defined (read-as c) (body-none type b);
+      no-texts-in = λ type b i r c. as-defined (group-of-as c) (asked-none type b i);
+      group-of = λ type b i r c. every (λ (a : WithTexts (Asked (List ℤ))). OrNone (bodyRules type b) noSuchEntry (groupsCounted type b ≤ i) (a .answer)) (group-of-as c) (group-asked type b i);
       entry-of = λ type b i r c. rw (entry-of-as c) (entry-asked type b i);
       quantity-of = λ type b i j r c. rw (quantity-of-as c) (quantity-asked type b i j);
       step = λ type b c r e. rw (step-as e) (stepped type b (meansCursor c));

@@ -22,23 +22,42 @@ use Rattle.layout.specs.Layout.{Message, heartbeat, channelHeartbeat, resend, s
 use Rattle.layout.specs.Group.{nextOffset, groupOffset, count, needs, judgeBody, judgeGroups}
 use Rattle.layout.proofs.Walk.{offset-next, offset-flat}
 use Rattle.record.specs.Asked.{WithTexts, withTexts, onceAccepted, Asked, found, noSuchEntry, judgeListed as judgedBody}
-use Rattle.record.specs.Record.{Reading, known, unknown, readAs, readListed, readBody, readBodyOf, readFrame, groupAs, groupListed, groupOf, groupsAs, groupsOf}
+use Rattle.record.specs.Record.{Reading, known, unknown, readAs, readListed, readBody, readBodyOf, readFrame, groupAs, groupListed, groupOf, groupsAs, groupsListed, groupsOf}
 use Rattle.record.proofs.Choice.{named-as}
 use Rattle.entries.specs.Paper.{meansCursor}
-use Rattle.entries.specs.Entry.{Entry, At, Stepped, entryAt, stepIn, step, entryListed, entryOf, quantityListed, quantityOf}
+use Rattle.entries.specs.Entry.{Entry, At, Stepped, entryAt, start, stepIn, step, entryListed, entryOf, quantityListed, quantityOf}
 use Rattle.record.specs.Paper.{meansRecord, meansFrameReading}
 use Rattle.bodies.specs.Body.{encode, body, bodyLength, exact}
 use Rattle.writer.specs.Write.{header, withSum, frameOf, writeKnown, writeJudged, outputWritten, write, writeLeaves}
 use Rattle.bodies.proofs.Bodies.{exactly}
 use Rattle.writer.proofs.Judging.{known-of}
 use Rattle.bodies.proofs.Round.{length-encode}
-use Rattle.demands.specs.Demand2.{Reader, Accepted, Unlisted, shownSum, bytesOf, Column, Tail, Leaves, frame-first, as-it-stood, Writer, Output, Held, Reads, ReadsBack, NoTail, SameBytes}
+use Rattle.demands.specs.Demand2.{ByTheRules, Reader, Accepted, with-value, Unlisted, shownSum, bytesOf, Column, Tail, Leaves, frame-first, as-it-stood, Writer, Output, Held, Reads, ReadsBack, NoTail, SameBytes}
 use Rattle.demands.specs.Rules.{_if_, Judged, success, here, later}
-use Rattle.demands.proofs.Calls.{frame-read-as, frame-body-as, groups-of-as, read-frame-as, read-as, judge-as, group-of-as, entry-of-as, quantity-of-as, step-as, write-as}
-use Rattle.demands.proofs.Tail.{judged-tail, same-entry, read-tail, group-as-tail, entry-in-tail, quantity-in-tail}
+use Rattle.demands.proofs.Calls.{frame-read-as, frame-body-as, frame-walk-as, groups-of-as, read-frame-as, read-as, judge-as, group-of-as, entry-of-as, quantity-of-as, start-as, step-as, write-as}
+use Rattle.demands.proofs.Tail.{judged-tail, same-entry, read-tail, groups-tail, group-as-tail, entry-in-tail, quantity-in-tail, start-tail}
 use Rattle.demands.proofs.Rules.{not-both, accepted-where}
 use Rattle.demands.proofs.Demand1.{demand1}
 use Rattle.demands.proofs.Back.{ReadsAs, back-known, judged-again, bytes-again}
+
+-- ---- what is read
+
+pub by-the-rules : ByTheRules
+by-the-rules =
+    record {
+      frame-read = λ s a h. frame-read-as h;
+      frame-body = λ s b h. frame-body-as h;
+      frame-walk = λ s w h. frame-walk-as h;
+      read-frame = λ s x h. read-frame-as h;
+      read = λ type b x h. read-as h;
+      judge = λ type b v h. judge-as h;
+      group-of = λ type b i x h. group-of-as h;
+      groups-of = λ type b gs h. groups-of-as h;
+      entry-of = λ type b i x h. entry-of-as h;
+      quantity-of = λ type b i j x h. quantity-of-as h;
+      start = λ type b c h. start-as h;
+      step = λ c type b x h. step-as h;
+    }
 
 -- ---- acceptance
 
@@ -170,15 +189,43 @@ frame-longer s t (accepted f) e k =
     rw (u, e, part-behind 8 (8 + f .len) s t (omega arith) (omega arith))
 frame-longer s t (refused n vs) e k = not-both k
 
+not-refused : {A : Type 0} {a : Answer A} {n : ℕ} → Accepted a → RefusedBy n a → ⊥
+not-refused (with-value x) r = accepted-too r
+
+frame-same : (s t : List ℕ) → Accepted (read headerWidth bodyLimit s) → read headerWidth bodyLimit (s ++ t) ≡ read headerWidth bodyLimit s
+frame-same s t k = frame-laws.unchanged-behind headerWidth bodyLimit s t (omega arith) (λ x. not-refused k x)
+
+body-longer :
+    (s t : List ℕ) (a : Answer Frame) → read headerWidth bodyLimit s ≡ a → Accepted a →
+    bodyOf headerWidth (read headerWidth bodyLimit (s ++ t)) (s ++ t) ≡ bodyOf headerWidth (read headerWidth bodyLimit s) s
+body-longer s t (accepted f) e k =
+    let n = frame-laws.known-of headerWidth bodyLimit s f e in
+    let u = frame-laws.unchanged-behind headerWidth bodyLimit s t (omega arith) (λ x. accepted-too (rw e at x)) ∙ e in
+    rw (u, e, part-behind 8 (8 + f .len) s t (omega arith) (omega arith))
+body-longer s t (refused n vs) e k = not-both k
+
+groups-longer : (l : Listed) (b t : List ℕ) → Accepted (judgedBody l b) → groupsListed l (b ++ t) ≡ groupsListed l b
+groups-longer (listed m) b t k = groups-tail m b t (unit-judged (judgeBody m b) k)
+groups-longer no-type b t k = refl
+
+start-longer : (l : Listed) (b t : List ℕ) → Accepted (judgedBody l b) → start l (b ++ t) ≡ start l b
+unfolding start
+start-longer (listed m) b t k = start-tail m b t (unit-judged (judgeBody m b) k)
+start-longer no-type b t k = refl
+
 -- what holds of the definition is told of the answers that meet it
 longer :
     {A B : Type 0} (answer : A → Answer B) {p q d e : A} → p ≡ d → q ≡ e → (Accepted (answer d) → e ≡ d) → Accepted (answer p) → q ≡ p
 longer answer {p} g h more k = h ∙ more (subst (λ x. Accepted (answer x)) g k) ∙ sym g
 
 pub tail : (b t : List ℕ) → Tail b t
-unfolding readFrame readBody groupOf entryOf quantityOf
+unfolding readFrame readBody groupOf groupsOf entryOf quantityOf
 tail b t =
     record {
+      frame-read = λ r u p q k. longer (λ (x : Answer Frame). x) (frame-read-as p) (frame-read-as q) (frame-same b t) k;
+      frame-body = λ a x y h k p q. frame-body-as q ∙ body-longer b t (read headerWidth bodyLimit b) refl (subst Accepted (frame-read-as h) k) ∙ sym (frame-body-as p);
+      groups-of = λ type v x y h k p q. groups-of-as q ∙ groups-longer (named type) b t (subst Accepted (judge-as h) k) ∙ sym (groups-of-as p);
+      start = λ type v c d h k p q. start-as q ∙ start-longer (named type) b t (subst Accepted (judge-as h) k) ∙ sym (start-as p);
       read-frame = λ r u p q k. longer (λ (x : WithTexts Reading). x .answer) (read-frame-as p) (read-frame-as q) (λ j. frame-longer b t (read headerWidth bodyLimit b) refl j) k;
       read = λ type r u p q k. longer (λ (x : WithTexts Reading). x .answer) (read-as p) (read-as q) (read-longer (named type) type b t) k;
       judge = λ type r u p q k. longer (λ (x : Answer Unit). x) (judge-as p) (judge-as q) (judge-longer (named type) b t) k;

@@ -15,10 +15,10 @@ use Rattle.frame.specs.declared.Frame.{Frame}
 use Rattle.layout.specs.Layout.{Message, fields, typeNumber, Listed, listed, unlisted, named, values, texts}
 use Rattle.layout.specs.Group.{judgeBody}
 use Rattle.record.specs.Asked.{WithTexts, filled, onceAccepted, Asked, found, noSuchEntry, judgeListed}
-use Rattle.record.specs.Record.{Reading, known, unknown, readAs, readBody, readFrame, groupOf, groupsAs, groupsOf}
+use Rattle.record.specs.Record.{Reading, known, unknown, readAs, readListed, readBody, readFrame, groupOf, groupsAs, groupsOf}
 use Rattle.record.specs.Paper.{meansRecord}
 use Rattle.record.specs.declared.Record.{Record}
-use Rattle.record.proofs.Choice.{named-as, reads-as}
+use Rattle.record.proofs.Choice.{named-as, named-back, reads-as}
 use Rattle.record.proofs.Unique.{one-record}
 use Rattle.entries.specs.Entry.{Entry, Stepped, entryOf, step, entryFound}
 use Rattle.entries.specs.Paper.{meansCursor}
@@ -295,13 +295,25 @@ reads-here : (s : List ℕ) (f : Frame) → read headerWidth bodyLimit s ≡ acc
 unfolding readFrame
 reads-here s f e = rw e
 
+-- a body that reads as a record of a listed type is of that type
+type-once : (v : Answer Unit) (l m : Message) (zs ys : List ℤ) (ts : List ℕ) → onceAccepted v (known l ys) ts .answer ≡ accepted (known m zs) → l ≡ m
+type-once (accepted u) l m zs ys ts e = cc
+type-once (refused n vs) l m zs ys ts e = let z : _≡_ {A = ℕ} 0 1 = cc in absurd (omega arith)
+
+type-read : (l : Listed) (type : ℕ) (m : Message) (zs : List ℤ) (b : List ℕ) → readListed l type b .answer ≡ accepted (known m zs) → l ≡ listed m
+unfolding readAs
+type-read (listed l) type m zs b e = ap listed (type-once (judgeBody l b) l m zs (values (fields l) b 0) (texts (fields l) b 0) e)
+type-read unlisted type m zs b e = let z : _≡_ {A = ℕ} 0 1 = cc in absurd (omega arith)
+
 gives-back :
-    (x : Record) (ts gs : List ℕ) (n : ℕ) (s : List ℕ) (b : ReadsAs (meansRecord x) ts gs n s) → GivesBack x ts n s (frameAnswer (accepted (b .frame)))
-unfolding recordAnswer
+    (x : Record) (ts gs : List ℕ) (n : ℕ) (s : List ℕ) (b : ReadsAs (meansRecord x) ts gs n s) → GivesBack x ts gs n s (frameAnswer (accepted (b .frame)))
+unfolding recordAnswer readBody
 gives-back x ts gs n s b =
     record {
       plainly = refl;
       bytes = b .total;
+      kind = λ m zs e. named-back m (b .frame .kind) (type-read (named (b .frame .kind)) (b .frame .kind) m zs _ (ap (λ (t : WithTexts Reading). t .answer) (sym (reads-here s (b .frame) (b .framed)) ∙ b .fields) ∙ ap accepted e));
+      groups = b .groups;
       fields = λ m k y us e h.
           let r = reads-as (part 8 (8 + b .frame .len) s) m {t = b .frame .kind} (sym e) ∙ sym (reads-here s (b .frame) (b .framed)) ∙ b .fields in
           let w = record-from h ∙ ap (shownOf m) r in
@@ -315,7 +327,7 @@ structs-read-back x ts gs out r after f held h e g =
     let a = write-plain (writing.write (meansRecord x) ts gs out) (writer-positive (meansRecord x) ts gs (length out)) (written (meansRecord x) ts gs out .judged) (sym (ap (λ (y : WriteAnswer). y .answer) (w .0)) ∙ e) in
     let n = a ∙ ap (λ (y : WriteAnswer). accepted (y .written)) (sym (w .0)) in
     let b = subst (ReadsAs (meansRecord x) ts gs (r .written)) (sym (w .1)) (back-by (meansRecord x) held ts gs out (r .written) n) in
-    subst (GivesBack x ts (r .written) after) (sym (frame-from g ∙ ap frameAnswer (b .framed))) (gives-back x ts gs (r .written) after b)
+    subst (GivesBack x ts gs (r .written) after) (sym (frame-from g ∙ ap frameAnswer (b .framed))) (gives-back x ts gs (r .written) after b)
 
 -- what a body that shows plainly reads as
 read-plain : (m : Message) (b : List ℕ) → answerNumber (readAs m b .answer) ≡ plain → judgeBody m b ≡ accepted tt

@@ -2,6 +2,7 @@ pub mod Calls
 pub mod Cases
 pub mod Out
 pub mod Keeps
+pub mod Without
 pub mod Rules
 pub mod Demand1
 pub mod Back

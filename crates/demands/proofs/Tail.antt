@@ -11,14 +11,14 @@ use lib.ListN.{length, drop, length-append, length-drop}
 use lib.Seq.{take-append-le, drop-append-le}
 use borrow.Author.Tests.{le-leb, ltb-true}
 use Rattle.wire.specs.Answer.{accepted, guard}
-use Rattle.wire.proofs.Be.{beAt-behind}
+use Rattle.wire.proofs.Be.{beAt-behind, part-behind}
 use Rattle.layout.specs.Kind.{Kind, Form, unsigned, signed, written, form, bytes, width, characters}
 use Rattle.layout.specs.Layout.{Message, heartbeat, channelHeartbeat, resend, statistics, securityStatus, snapshot, index, volumeIndex, order, trade, fields, Group, Behind, nothing, groups, entries, behind, Entries, ofSnapshot, ofIndex, entryGroup, size, ranges, valueAt, values, textAt, texts}
 use Rattle.layout.specs.Group.{shown, shownOffset, nextOffset, groupOffset, fit, quantities, groupRanges, groupBehind, countAt, group, groupsStart, count, whole, inRange, judgeBody, judgeGroups}
-use Rattle.layout.proofs.Walk.{and-both, ahead, fit-fewer, fields-there, fit-there, good, has-all}
+use Rattle.layout.proofs.Walk.{and-both, ahead, fit-fewer, fields-there, fit-there, good, has-all, offset-within, offset-behind}
 use Rattle.record.specs.Asked.{Asked, found, noSuchEntry, below}
-use Rattle.record.specs.Record.{readAs, groupIn, groupTexts, groupAs}
-use Rattle.entries.specs.Entry.{entryAt, entryIn, quantityAt, quantityIn, ofFound}
+use Rattle.record.specs.Record.{readAs, groupIn, groupTexts, groupAs, groupsAs}
+use Rattle.entries.specs.Entry.{entryAt, entryIn, quantityAt, quantityIn, ofFound, startIn}
 
 pred-is : (k : ℕ) → suc k - 1 ≡ k
 pred-is k = omega arith
@@ -170,6 +170,13 @@ module _ (m : Message) (s t : List ℕ) (j : judgeBody m s ≡ accepted tt) wher
         r .1,
       )
 
+  pub groups-tail : groupsAs m (s ++ t) ≡ groupsAs m s
+  unfolding groupsAs
+  groups-tail =
+      let w = has-all m s j in
+      rw (judged-tail, j, count-tail m s t (w .long), offset-tail s t (group m) (counts m) (groupsStart m) (count m s) (w .groups))
+      (part-behind (groupsStart m) (groupOffset (group m) s (groupsStart m) (count m s)) s t (offset-behind (group m) s (groupsStart m) (count m s)) (offset-within (group m) s (groupsStart m) (count m s) (w .long) (w .groups)))
+
   pub read-tail : readAs m (s ++ t) ≡ readAs m s
   unfolding readAs
   read-tail =
@@ -278,3 +285,13 @@ same-entry e s t at j =
       entry = entry-tail s t 0 e at (n .fixed);
       behind = next-tail s t g (entry-counts e) at (n .fixed);
     }
+
+-- ---- the cursor before the first entry
+
+start-by : (h : Behind) (end : ℕ) (s t : List ℕ) → countAt h end (s ++ t) ≡ countAt h end s → startIn h end (s ++ t) ≡ startIn h end s
+start-by nothing end s t e = refl
+start-by (groups g) end s t e = refl
+start-by (entries x) end s t e = rw e
+
+pub start-tail : (m : Message) (s t : List ℕ) → judgeBody m s ≡ accepted tt → startIn (behind m) (groupsStart m) (s ++ t) ≡ startIn (behind m) (groupsStart m) s
+start-tail m s t j = start-by (behind m) (groupsStart m) s t (count-tail m s t (has-all m s j .long))

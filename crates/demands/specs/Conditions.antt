@@ -79,8 +79,8 @@ groupsIn (groups g) end b = countAt (groups g) end b
 groupsIn (entries e) end b = 0
 
 -- A1: the same by the type's number
-abbrev pub groupCount : ℕ → List ℕ → ℕ
-groupCount type b = groupsIn (behindOf (named type)) (fieldsEnd (named type)) b
+abbrev pub groupsCounted : ℕ → List ℕ → ℕ
+groupsCounted type b = groupsIn (behindOf (named type)) (fieldsEnd (named type)) b
 
 -- A1: the count of entries
 abbrev pub entriesIn : Behind → ℕ → List ℕ → ℕ

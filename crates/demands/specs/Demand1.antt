@@ -1,21 +1,27 @@
--- Demand 1's refusals: for each call, in their order, each with its condition (specs/Conditions).
+-- Demand 1's refusals: for each call, in their order, each with its condition (specs/Conditions); and what there is not beside one.
 -- Assumes nothing.
 use Prim.Native.Nat.{ℕ, _+_, _<_}
 use mathlib.Core.Path.{_≡_}
 use mathlib.Core.Logic.{_⊎_}
 use mathlib.Core.List.{List, [], _∷_, _++_}
 use lib.ListN.{length}
+use Rattle.wire.specs.Answer.{refused}
 use Rattle.wire.specs.Bytes.{beAt, part}
 use Rattle.wire.specs.Refusal.{tooShort, tooLong, wrongSum, notItsLayout, outOfRange, outputShort, noSuchChannel, numberTooLow, tableFull, malformed}
-use Rattle.frame.specs.Framing.{bodyLimit}
+use Rattle.frame.specs.Framing.{bodyLimit, meansFramed}
+use Rattle.frame.specs.declared.Framed.{Framed}
 use Rattle.layout.specs.Layout.{fields, named}
 use Rattle.layout.specs.Group.{group}
+use Rattle.layout.specs.Paper.{meansVerdict}
+use Rattle.layout.specs.declared.group.Verdict.{Verdict}
+use Rattle.record.specs.Asked.{WithTexts, withTexts}
 use Rattle.record.specs.Record.{Reading, known, unknown}
 use Rattle.entries.specs.Entry.{At}
 use Rattle.bodies.specs.Body.{bodyLength, stated}
 use Rattle.gaps.specs.Channel.{Event}
 use Rattle.seats.specs.Places.{channelLimit}
 use Rattle.tracker.specs.declared.Tracker.{Tracker}
+use Rattle.demands.specs.Calls.{FrameRead, FrameBody, Judge, GroupsOf}
 use Rattle.demands.specs.Rules.{Rule, _if_}
 use Rattle.demands.specs.Conditions.{L, SumDiffers, BodyShort, Strays, behindOf, EntryLacks, EntryStrays, Exactly, NumberOut, SomeGroupOut, Falls, Keeps, NotIn, Low, Overfills, RequestShort}
 
@@ -56,3 +62,18 @@ arrivalRules t k e = malformed if (Keeps t → ⊥) ∷ noSuchChannel if NotIn t
 -- J5: a request for channel k, to an output of room bytes
 abbrev pub requestRules : Tracker → ℕ → ℕ → List Rule
 requestRules t k room = malformed if (Keeps t → ⊥) ∷ noSuchChannel if NotIn t k ∷ outputShort if RequestShort t k room ∷ []
+
+-- ---- beside a refusal
+
+-- F6, J6: a refused frame has no body
+abbrev pub NoBody : Type 0
+NoBody = (s b : List ℕ) (a : Framed) (n : ℕ) (vs : List ℕ) → FrameRead s a → meansFramed a ≡ refused n vs → FrameBody s b → b ≡ []
+
+-- A7, J6: a refused body has no groups
+abbrev pub NoGroups : Type 0
+NoGroups =
+    (type : ℕ) (b gs : List ℕ) (v : Verdict) (n : ℕ) (vs : List ℕ) → Judge type b v → meansVerdict v ≡ refused n vs → GroupsOf type b gs → gs ≡ []
+
+-- L8, J6: a refusal has no texts: their room is zero, and none of it is used
+abbrev pub NoTexts : {A : Type 0} → WithTexts A → Type 0
+NoTexts t = (n : ℕ) (vs : List ℕ) → t .answer ≡ refused n vs → t ≡ withTexts (refused n vs) []

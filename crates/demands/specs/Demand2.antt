@@ -1,5 +1,5 @@
--- Demand 2's statements, of every answer that the contracts allow (specs/Calls): what is accepted, what is written, and that nothing is
--- lost on the way in either direction. That a call reads each field as the layouts say is its promise, over the definition that it cites.
+-- Demand 2's statements, of every answer that the contracts allow (specs/Calls): what is read, what is accepted, what is written, and that
+-- nothing is lost on the way in either direction.
 -- Assumes nothing.
 use Prim.Native.Nat.{ℕ, zero, suc, _+_, _*_, _≤_, _<_}
 use mathlib.Core.Path.{_≡_}
@@ -11,28 +11,58 @@ use Rattle.wire.specs.Answer.{Answer, accepted, refused, RefusedBy}
 use Rattle.wire.specs.Bytes.{Bytes, part}
 use Rattle.wire.specs.Refusal.{notItsLayout}
 use Rattle.frame.specs.Framing as framed-as
+use Rattle.frame.specs.Walk as walked-as
 use Rattle.frame.specs.declared.Framed.{Framed}
+use Rattle.frame.specs.declared.walking.Walked.{Walked}
 use Rattle.frame.specs.declared.Framed.the-variants.{Whole}
 use Rattle.frame.specs.declared.Frame.{Frame}
 use Rattle.layout.specs.Layout.{Message, heartbeat, channelHeartbeat, resend, statistics, securityStatus, snapshot, index, volumeIndex, order, trade, fields, typeNumber, snapshotEntries, listed, unlisted, named}
 use Rattle.layout.specs.Paper as layout-paper
+use Rattle.layout.specs.declared.group.Verdict.{Verdict}
 use Rattle.layout.specs.Group.{shown, groupOffset, count, needs}
+use Rattle.record.specs.Asked as judged-as
 use Rattle.record.specs.Asked.{withTexts}
-use Rattle.record.specs.Record.{Reading, known, unknown}
+use Rattle.record.specs.Record.{Reading, known, unknown, readBody, readFrame, groupOf, groupsOf}
 use Rattle.record.specs.Paper as record-paper
 use Rattle.record.specs.Paper.{meansRecord, meansFrameReading}
 use Rattle.record.specs.declared.Reading as code-reading
 use Rattle.record.specs.declared.Record.{Record}
 use Rattle.record.specs.declared.framed.FrameReading.{FrameReading}
-use Rattle.entries.specs.Paper.{meansAskedEntry, meansQuantity, meansStep}
+use Rattle.record.specs.declared.group.GroupReading.{GroupReading}
+use Rattle.entries.specs.Entry as stepped-as
+use Rattle.entries.specs.Entry.{entryOf, quantityOf}
+use Rattle.entries.specs.Paper.{meansAskedEntry, meansQuantity, meansCursor, meansStep}
+use Rattle.entries.specs.declared.entry.AskedEntry.{AskedEntry}
+use Rattle.entries.specs.declared.entry.AskedQuantity.{AskedQuantity}
 use Rattle.entries.specs.declared.cursor.Cursor.{Cursor}
+use Rattle.entries.specs.declared.cursor.Step.{Step}
 use Rattle.bodies.specs.Body.{Numbers, body, bodyLength}
 use Rattle.writer.specs.Write.{frameOf}
 use Rattle.writer.specs.Paper.{meansWritten}
 use Rattle.writer.specs.declared.Written.{Written}
-use Rattle.demands.specs.Calls.{FrameRead, ReadFrame, FrameBody, Read, Judge, GroupOf, GroupsOf, EntryOf, QuantityOf, CursorStep, Write}
+use Rattle.demands.specs.Calls.{FrameRead, FrameBody, FrameWalk, ReadFrame, Read, Judge, GroupOf, GroupsOf, EntryOf, QuantityOf, CursorStart, CursorStep, Write}
 use Rattle.demands.specs.Rules.{Rule}
 use Rattle.demands.specs.Demand1.{readerRules, writerRules}
+
+-- ---- what is read
+
+-- D21: the frame, body and walk, the record, groups, entries and cursor that the rules' definitions give for the same bytes
+pub record ByTheRules : Type 0 where
+  pub frame-read : (s : List ℕ) (a : Framed) → FrameRead s a → framed-as.meansFramed a ≡ framed-as.read framed-as.headerWidth framed-as.bodyLimit s
+  pub frame-body :
+      (s b : List ℕ) → FrameBody s b → b ≡ framed-as.bodyOf framed-as.headerWidth (framed-as.read framed-as.headerWidth framed-as.bodyLimit s) s
+  pub frame-walk :
+      (s : List ℕ) (w : Walked) → FrameWalk s w →
+      walked-as.meansWalked w ≡ walked-as.walkCount (walked-as.walk framed-as.headerWidth framed-as.bodyLimit s)
+  pub read-frame : (s : List ℕ) (x : FrameReading) → ReadFrame s x → meansFrameReading x ≡ readFrame s
+  pub read : (type : ℕ) (b : List ℕ) (x : code-reading.Reading) → Read type b x → record-paper.meansReading x ≡ readBody type b
+  pub judge : (type : ℕ) (b : List ℕ) (v : Verdict) → Judge type b v → layout-paper.meansVerdict v ≡ judged-as.judge type b
+  pub group-of : (type : ℕ) (b : List ℕ) (i : ℕ) (x : GroupReading) → GroupOf type b i x → record-paper.meansGroupReading x ≡ groupOf type b i
+  pub groups-of : (type : ℕ) (b gs : List ℕ) → GroupsOf type b gs → gs ≡ groupsOf type b
+  pub entry-of : (type : ℕ) (b : List ℕ) (i : ℕ) (x : AskedEntry) → EntryOf type b i x → meansAskedEntry x ≡ entryOf type b i
+  pub quantity-of : (type : ℕ) (b : List ℕ) (i j : ℕ) (x : AskedQuantity) → QuantityOf type b i j x → meansQuantity x ≡ quantityOf type b i j
+  pub start : (type : ℕ) (b : List ℕ) (c : Cursor) → CursorStart type b c → meansCursor c ≡ stepped-as.start (named type) b
+  pub step : (c : Cursor) (type : ℕ) (b : List ℕ) (x : Step) → CursorStep c type b x → meansStep x ≡ stepped-as.step (named type) b (meansCursor c)
 
 -- ---- acceptance: exactly where none of the conditions of demand 1 holds
 
@@ -92,16 +122,25 @@ Column =
 
 -- L7: what a call can answer of longer bytes is what it answered where it accepted
 abbrev pub Unmoved : {R A B : Type 0} → (R → A) → (A → Answer B) → (R → Type 0) → (R → Type 0) → Type 0
-Unmoved {R} meansWritten answer Can Longer = (r u : R) → Can r → Longer u → Accepted (answer (meansWritten r)) → meansWritten u ≡ meansWritten r
+Unmoved {R} means answer Can Longer = (r u : R) → Can r → Longer u → Accepted (answer (means r)) → means u ≡ means r
 
--- F5, L7: bytes t behind
+-- F5, F6, L7, A5, A7: bytes t behind
 pub record Tail (b t : List ℕ) : Type 0 where
+  pub frame-read : Unmoved framed-as.meansFramed (λ a. a) (FrameRead b) (FrameRead (b ++ t))
+  pub frame-body :
+      (a : Framed) (x y : List ℕ) → FrameRead b a → Accepted (framed-as.meansFramed a) → FrameBody b x → FrameBody (b ++ t) y → y ≡ x
   pub read-frame : Unmoved meansFrameReading (λ a. a .answer) (ReadFrame b) (ReadFrame (b ++ t))
   pub read : (type : ℕ) → Unmoved record-paper.meansReading (λ a. a .answer) (Read type b) (Read type (b ++ t))
   pub judge : (type : ℕ) → Unmoved layout-paper.meansVerdict (λ a. a) (Judge type b) (Judge type (b ++ t))
   pub group-of : (type i : ℕ) → Unmoved record-paper.meansGroupReading (λ a. a .answer) (GroupOf type b i) (GroupOf type (b ++ t) i)
+  pub groups-of :
+      (type : ℕ) (v : Verdict) (x y : List ℕ) → Judge type b v → Accepted (layout-paper.meansVerdict v) → GroupsOf type b x →
+      GroupsOf type (b ++ t) y → y ≡ x
   pub entry-of : (type i : ℕ) → Unmoved meansAskedEntry (λ a. a) (EntryOf type b i) (EntryOf type (b ++ t) i)
   pub quantity-of : (type i j : ℕ) → Unmoved meansQuantity (λ a. a) (QuantityOf type b i j) (QuantityOf type (b ++ t) i j)
+  pub start :
+      (type : ℕ) (v : Verdict) (c d : Cursor) → Judge type b v → Accepted (layout-paper.meansVerdict v) → CursorStart type b c →
+      CursorStart type (b ++ t) d → meansCursor d ≡ meansCursor c
   pub step : (c : Cursor) (type : ℕ) → Unmoved meansStep (λ a. a) (CursorStep c type b) (CursorStep c type (b ++ t))
 
 -- ---- the writer, likewise

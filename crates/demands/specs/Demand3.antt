@@ -12,7 +12,7 @@ use Rattle.gaps.specs.Channel.{Event, tick, heartbeat, new, late, duplicate, he
 use Rattle.gaps.specs.History.{Brought, top, ends, Missing, Overfull}
 use Rattle.tracker.specs.declared.Tracker.{Tracker}
 use Rattle.tracker.specs.declared.Reply.{Reply}
-use Rattle.seats.specs.Places.{firstNumber}
+use Rattle.seats.specs.Places.{lowestNumber}
 use Rattle.tracker.specs.SetUp.{setUp}
 use Rattle.tracker.specs.Arrived.{Arrival, on, arrivalSaid}
 use Rattle.demands.specs.Calls.{Arrives}
@@ -32,17 +32,17 @@ TwoOrders =
 abbrev pub GapsFromHistory : Type 0
 GapsFromHistory =
     (numbers : List ℕ) (t u : Tracker) (l : List Turn) → Fresh numbers t → Play t l u → (k : ℕ) → Has t k →
-    (n : ℕ) → (has (channelOf u k .runs) n ≡ true) ↔ Missing firstNumber (historyOf k l) n
+    (n : ℕ) → (has (channelOf u k .runs) n ≡ true) ↔ Missing lowestNumber (historyOf k l) n
 
 -- D33: the highest and the ended mark are the history's too
 abbrev pub MarksFromHistory : Type 0
 MarksFromHistory =
     (numbers : List ℕ) (t u : Tracker) (l : List Turn) → Fresh numbers t → Play t l u → (k : ℕ) → Has t k →
-    (channelOf u k .highest ≡ top firstNumber (historyOf k l)) × (channelOf u k .ended ≡ ends (historyOf k l))
+    (channelOf u k .highest ≡ top lowestNumber (historyOf k l)) × (channelOf u k .ended ≡ ends (historyOf k l))
 
 -- the next arrival e on channel k would need a 33rd run
 abbrev pub WouldFill : ℕ → List Turn → Event → Type 0
-WouldFill k l e = Overfull firstNumber (historyOf k l ++ (e ∷ []))
+WouldFill k l e = Overfull lowestNumber (historyOf k l ++ (e ∷ []))
 
 -- D33: 9 exactly when the gaps of the history with this arrival would form more than 32 runs
 abbrev pub NineFromHistory : Type 0
@@ -56,9 +56,9 @@ abbrev pub TickFromHistory : Type 0
 TickFromHistory =
     (numbers : List ℕ) (t u : Tracker) (l : List Turn) → Fresh numbers t → Play t l u → (k : ℕ) → Has t k →
     (n : ℕ) (r : Reply) → 1 ≤ n → Arrives u (on k (tick (pos n))) r →
-    ((arrivalSaid (r .verdict) ≡ accepted new) ↔ ((top firstNumber (historyOf k l) < n) × (WouldFill k l (tick (pos n)) → ⊥)))
+    ((arrivalSaid (r .verdict) ≡ accepted new) ↔ ((top lowestNumber (historyOf k l) < n) × (WouldFill k l (tick (pos n)) → ⊥)))
     × ((arrivalSaid (r .verdict) ≡ accepted late)
-    ↔ ((n ≤ top firstNumber (historyOf k l)) × (Brought (historyOf k l) n → ⊥) × (WouldFill k l (tick (pos n)) → ⊥)))
+    ↔ ((n ≤ top lowestNumber (historyOf k l)) × (Brought (historyOf k l) n → ⊥) × (WouldFill k l (tick (pos n)) → ⊥)))
     × ((arrivalSaid (r .verdict) ≡ accepted duplicate) ↔ Brought (historyOf k l) n)
 
 -- D33: and a heartbeat's answer is heard exactly when it is not 9

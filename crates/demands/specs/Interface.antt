@@ -183,19 +183,21 @@ pub record SameAnswers : Type 0 where
 
 -- ---- demand 2: the round trips through the structs
 
--- D22: `orizhgum_frame` and the type's record call accept bytes that begin with a frame of n, and give the struct x and the texts
-pub record GivesBack (x : Record) (ts : List ℕ) (n : ℕ) (s : List ℕ) (f : FrameAnswer) : Type 0 where
+-- D22: `orizhgum_frame` and the type's record call accept bytes that begin with a frame of n, and give the type, the struct x, the texts and the groups
+pub record GivesBack (x : Record) (ts gs : List ℕ) (n : ℕ) (s : List ℕ) (f : FrameAnswer) : Type 0 where
   pub plainly : f .answer ≡ plain
   pub bytes : f .total ≡ n
+  pub kind : (m : Message) (zs : List ℤ) → meansRecord x ≡ record-of.known m zs → f .kind ≡ typeNumber m
   pub fields :
       (m : Message) (k : ℕ) (y : Record) (us : List ℕ) → typeNumber m ≡ f .kind → RecordFromC m (part 8 (8 + f .len) s) k y us →
       (k ≡ plain) × (y ≡ x) × (us ≡ filled ts)
+  pub groups : groupsOf (f .kind) (part 8 (8 + f .len) s) ≡ gs
 
 -- D22: so after every write that is answered plainly
 abbrev pub StructsReadBack : Type 0
 StructsReadBack =
     (x : Record) (ts gs out : List ℕ) (r : WriteAnswer) (after : List ℕ) (f : FrameAnswer) → Held (meansRecord x) →
-    WriteFromC x ts gs out r after → r .answer ≡ plain → FrameFromC after f → GivesBack x ts (r .written) after f
+    WriteFromC x ts gs out r after → r .answer ≡ plain → FrameFromC after f → GivesBack x ts gs (r .written) after f
 
 -- D23: the struct and the texts that a record call gave, and the groups of its body, are written as the same bytes
 abbrev pub StructsSameBytes : Type 0

@@ -18,7 +18,7 @@ use Rattle.gaps.specs.declared.Run.{Run}
 use Rattle.gaps.specs.History.{Missing}
 use Rattle.tracker.specs.declared.Tracker.{Tracker}
 use Rattle.tracker.specs.FirstRun.{lost, firstRun}
-use Rattle.seats.specs.Places.{firstNumber}
+use Rattle.seats.specs.Places.{lowestNumber}
 use Rattle.tracker.specs.Request.{batch, asked, space, written, nothing, meansRequested}
 use Rattle.tracker.specs.declared.Requested.{Requested}
 use Rattle.demands.specs.Calls.{FrameRead, ReadFrame, Request}
@@ -48,7 +48,7 @@ RequestReads =
 
 -- n is missing on channel k: from 1 to the highest that accepted arrivals brought or announced, and not brought
 abbrev pub Misses : ℕ → List Turn → ℕ → Type 0
-Misses k l n = Missing firstNumber (historyOf k l) n
+Misses k l n = Missing lowestNumber (historyOf k l) n
 
 -- bytes that ask for the lowest missing numbers of channel k: each number from the first to the last is missing, no lower one is,
 -- and neither is the next one, but where the batch is full

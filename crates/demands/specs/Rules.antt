@@ -34,4 +34,4 @@ pub record Kept {A S : Type 0} (rules : List Rule) (answer : Answer A) (stood gi
 
 -- every answer that the call can give
 abbrev pub Every : {R A : Type 0} → (R → A) → (R → Type 0) → (A → Type 1) → Type 1
-Every {R} {A} paper Can says = (r : R) → Can r → says (paper r)
+Every {R} {A} means Can says = (r : R) → Can r → says (means r)

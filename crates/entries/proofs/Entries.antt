@@ -23,7 +23,7 @@ use Rattle.entries.specs.Entry.{At, entryAt, atNone, start, stepIn, step
 
 -- ---- the types with entries, and those without
 
--- "a type without them, or an unknown type"
+-- a type that has none, and one that is not listed
 pub data NoEntries : Listed → Type 0 where
   bare : {m : Message} → behind m ≡ nothing → NoEntries (listed m)
   grouped : {m : Message} (g : Group) → behind m ≡ groups g → NoEntries (listed m)

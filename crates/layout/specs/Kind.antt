@@ -250,6 +250,6 @@ range stockNumber = free
 range switchType = free
 range (text t) = free
 
--- N10: whether the number that a field's bytes make, read without a sign, is in the field's range
+-- N1, N2, N3, N4, N5, N6, N7, N8, N9, N10: whether the number that a field's bytes make, read without a sign, is in the field's range
 unfoldable pub ranged : Kind → ℕ → Bool
 ranged k v = within (range k) (valueIn (form k) v)

@@ -19,7 +19,7 @@ saidNumber (accepted duplicate) = duplicateNumber
 saidNumber (accepted heard) = plain
 saidNumber (refused n vs) = n
 
--- C9: the set-up's answer, and the tracker
+-- C1, J7: the set-up's answer, and the tracker
 abbrev pub startAnswer : Ready → StartAnswer
 startAnswer r = record { answer = answerNumber (r .said); tracker = r .tracker }
 

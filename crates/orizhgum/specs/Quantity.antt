@@ -6,7 +6,7 @@ use Rattle.wire.specs.Number.{plain, noSuchEntryNumber}
 use Rattle.record.specs.Asked.{Asked, found, noSuchEntry}
 use Rattle.orizhgum.specs.declared.entry.QuantityAnswer.{QuantityAnswer}
 
--- C1: a shown quantity by position; 0 without one
+-- C6: a shown quantity by position; 0 without one
 unfoldable pub quantityAnswer : Answer (Asked ℤ) → QuantityAnswer
 quantityAnswer (accepted (found z)) = record { answer = plain; quantity = z }
 quantityAnswer (accepted noSuchEntry) = record { answer = noSuchEntryNumber; quantity = pos 0 }

@@ -2,14 +2,12 @@
 -- Assumes nothing.
 use Prim.Native.Nat.{ℕ, _-_}
 use mathlib.Core.Path.{_≡_, refl, ap, sym, _∙_}
-use mathlib.Core.List.{List, [], _∷_}
-use lib.IntN.{ℤ, pos}
-use mir.Syntax.{w64}
-use mir.Val.{toZ}
+use mathlib.Core.List.{List}
+use lib.IntN.{ℤ}
 use Rattle.wire.specs.Answer.{Answer, accepted}
 use Rattle.wire.specs.Number.{plain, noSuchEntryNumber}
 use Rattle.wire.specs.Bytes.{beAt}
-use Rattle.layout.specs.Layout.{Entries, ofSnapshot, ofIndex, entryGroup, entries, values}
+use Rattle.layout.specs.Layout.{Entries, entryGroup, entries, values}
 use Rattle.layout.specs.Group.{nextOffset, judgeGroups}
 use Rattle.layout.specs.Paper.{bodyRefusal, meansVerdict}
 use Rattle.layout.specs.declared.group.Refusal.{Refusal}
@@ -17,7 +15,6 @@ use Rattle.layout.specs.declared.group.Verdict.{Verdict}
 use Rattle.layout.specs.declared.group.Verdict.the-variants.{Refused}
 use Rattle.record.specs.Asked.{Asked}
 use Rattle.entries.specs.Entry.{Says, Stepped, saysIn, entryAt, stepIn, entryFound}
-use Rattle.entries.specs.Entry as entry-of
 use Rattle.entries.proofs.Entries.{step-none, step-refused, step-found}
 use Rattle.prices.specs.Entries.{priceOf, priceLeft, pricedLeft, noEntry, saying, entryFromC, stepAnswer}
 use Rattle.prices.specs.declared.entry.Entry.{Entry}

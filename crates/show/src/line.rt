@@ -12,11 +12,11 @@ use record::SecurityStatus;
 use record::Trade;
 
 // At most three fields behind the offset.
-fn few(offset: i64, a: i64, b: i64, c: i64) -> [i64; 12] {
+fn few(offset: i64, a: i64, b: i64, c: i64) -> [i64; Line::FIELDS] {
     [offset, a, b, c, 0, 0, 0, 0, 0, 0, 0, 0]
 }
 
-fn order(offset: i64, r: Order) -> [i64; 12] {
+fn order(offset: i64, r: Order) -> [i64; Line::FIELDS] {
     [
         offset,
         r.channel as i64,
@@ -33,7 +33,7 @@ fn order(offset: i64, r: Order) -> [i64; 12] {
     ]
 }
 
-fn trade(offset: i64, r: Trade) -> [i64; 12] {
+fn trade(offset: i64, r: Trade) -> [i64; Line::FIELDS] {
     [
         offset,
         r.channel as i64,
@@ -51,7 +51,7 @@ fn trade(offset: i64, r: Trade) -> [i64; 12] {
 }
 
 // The common part of snapshots and indices, and the field behind it.
-fn common(offset: i64, r: Common, last: u32) -> [i64; 12] {
+fn common(offset: i64, r: Common, last: u32) -> [i64; Line::FIELDS] {
     [
         offset,
         r.time,
@@ -68,7 +68,7 @@ fn common(offset: i64, r: Common, last: u32) -> [i64; 12] {
     ]
 }
 
-fn resend(offset: i64, r: Resend) -> [i64; 12] {
+fn resend(offset: i64, r: Resend) -> [i64; Line::FIELDS] {
     [
         offset,
         r.resend_type as i64,
@@ -85,7 +85,7 @@ fn resend(offset: i64, r: Resend) -> [i64; 12] {
     ]
 }
 
-fn security_status(offset: i64, r: SecurityStatus) -> [i64; 12] {
+fn security_status(offset: i64, r: SecurityStatus) -> [i64; Line::FIELDS] {
     [
         offset,
         r.time,
@@ -103,7 +103,7 @@ fn security_status(offset: i64, r: SecurityStatus) -> [i64; 12] {
 }
 
 // The fields of a record that was read from a body of len bytes, behind its offset.
-fn fields(offset: i64, r: Record, len: i64) -> [i64; 12] {
+fn fields(offset: i64, r: Record, len: i64) -> [i64; Line::FIELDS] {
     match r {
         Record::Heartbeat => few(offset, 0, 0, 0),
         Record::ChannelHeartbeat(x) => few(offset, x.channel as i64, x.last_number, x.end as i64),

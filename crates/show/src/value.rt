@@ -17,11 +17,14 @@ fn magnitude(bits: u64) -> u64 {
     0xffff_ffff_ffff_ffff - bits + 1
 }
 
-// A picture of at most 24 bytes, with the last digits of a number where it has zeros.
+// The most bytes of a picture.
+const PICTURE: usize = 24;
+
+// A picture, with the last digits of a number where it has zeros.
 pub fn digits(out: &mut [u8], at: usize, picture: &[u8], v: u64) -> usize {
     let n = picture.len();
-    let mut shown = [0u8; 24];
-    if 24 < n {
+    let mut shown = [0u8; PICTURE];
+    if PICTURE < n {
         return at;
     }
     wire::copy(&mut shown, 0, picture);

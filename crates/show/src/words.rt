@@ -7,11 +7,16 @@ use layout::TEXT_ROOM;
 // A line by its number in the table, its fields, and the texts that they name. Line 0 is empty.
 pub struct Line {
     pub number: u64,
-    pub fields: [i64; 12],
+    pub fields: [i64; Line::FIELDS],
     pub texts: [u8; TEXT_ROOM],
 }
 
-pub fn full(texts: [u8; TEXT_ROOM], number: u64, fields: [i64; 12]) -> Line {
+impl Line {
+    // The most fields that a line has.
+    pub const FIELDS: usize = 12;
+}
+
+pub fn full(texts: [u8; TEXT_ROOM], number: u64, fields: [i64; Line::FIELDS]) -> Line {
     Line {
         number,
         fields,

@@ -19,6 +19,6 @@ decimals (suc k) v = cond (leb v 9) (glyph v ∷ []) (decimals k (v / 10) ++ (gl
 abbrev pub decimalOf : ℕ → List ℕ
 decimalOf v = decimals 19 v
 
--- O1: the offset behind some bytes at an offset of the output where they fit; else that offset
+-- the offset behind some bytes at an offset of the output where they fit; else that offset
 unfoldable pub offsetBehind : List ℕ → ℕ → List ℕ → ℕ
 offsetBehind out at bs = cond (leb (at + length bs) (length out)) (at + length bs) at

@@ -15,7 +15,7 @@ use Rattle.gaps.specs.Limits.{runLimit, mostNumber}
 use Rattle.gaps.proofs.Numbers.{and-split}
 use Rattle.tracker.specs.declared.Tracker.{Tracker}
 use Rattle.seats.specs.declared.Seat.{Seat}
-use Rattle.seats.specs.Places.{firstNumber, span}
+use Rattle.seats.specs.Places.{lowestNumber, span}
 use Rattle.seats.specs.Arrays.{Arrays}
 use Rattle.seats.specs.Seat.{seatOf}
 use Rattle.tracker.specs.Places.{made, channelAt}
@@ -78,7 +78,7 @@ pub record Lies (r : Run) : Type 0 where
   pub order : r .first ≤ r .last
   pub high : r .last ≤ mostNumber
 
-lies-in : (h : ℕ) (l : List Run) (r : Run) → h ≤ mostNumber → canon firstNumber h l ≡ true → foremost l ≡ lost r → Lies r
+lies-in : (h : ℕ) (l : List Run) (r : Run) → h ≤ mostNumber → canon lowestNumber h l ≡ true → foremost l ≡ lost r → Lies r
 unfolding canon
 lies-in h [] r m e p = absurd (let z : _≡_ {A = ℕ} 0 1 = cc in omega arith)
 lies-in h (s ∷ l) r m e p =
@@ -97,7 +97,7 @@ lies-row t i r w p =
     let n : ℕ = getD (t .counts) i 0 in
     let a = and-split (leb n runLimit) _ (w .row) in
     let b = and-split (leb h mostNumber) _ (a .1) in
-    let d = and-split (canon firstNumber h (span (t .first) (t .last) (i * runLimit) n)) _ (b .1) in
+    let d = and-split (canon lowestNumber h (span (t .first) (t .last) (i * runLimit) n)) _ (b .1) in
     lies-in h (span (t .first) (t .last) (i * runLimit) n) r (leb-true h mostNumber (b .0)) (d .0) p
 
 -- a first run that is answered, or none, is the foremost of the channel's runs

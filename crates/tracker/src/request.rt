@@ -18,6 +18,11 @@ use record::Resend;
 use seats::seat_of;
 use writer::Written;
 
+// The resend type that asks by numbers, and the status of a frame that asks.
+const BY_NUMBERS: u8 = 1;
+
+const NO_STATUS: u8 = 0;
+
 // 10, then 7; or the first run of the channel, where it has one, in a tracker of these fields.
 fn first_run<'a>(
     channel: u16,
@@ -93,11 +98,11 @@ fn resend(channel: u16, run: Run) -> Resend
     ensures { λ r. ⌜ meansRecord (variant.Resend r) ≡ resendOf channel run ⌝ }
 {
     Resend {
-        resend_type: 1,
+        resend_type: BY_NUMBERS,
         channel,
         first_number: run.first as i64,
         last_number: run.last as i64,
-        status: 0,
+        status: NO_STATUS,
     }
 }
 

@@ -10,7 +10,7 @@ use lib.ListN.{length, take, drop}
 abbrev pub bytesThere : List ℕ → ℕ → ℕ → Bool
 bytesThere s from to = leb to (length s) && leb from to
 
--- O1: the bytes from an offset up to another at the front, those behind them as they stood
+-- the bytes from an offset up to another at the front, those behind them as they stood
 unfoldable pub slid : List ℕ → ℕ → ℕ → List ℕ
 slid s from to = cond (bytesThere s from to) (take (to - from) (drop from s) ++ drop (to - from) s) s
 
@@ -18,6 +18,6 @@ slid s from to = cond (bytesThere s from to) (take (to - from) (drop from s) ++ 
 unfoldable pub moved : List ℕ → ℕ → ℕ → ℕ
 moved s from to = cond (bytesThere s from to) (to - from) 0
 
--- O1: what is still held of the gathered bytes: all where there is room behind them, else none
+-- what is still held of the gathered bytes: all where there is room behind them, else none
 unfoldable pub stillHeld : List ℕ → ℕ → ℕ → ℕ
 stillHeld s gathered room = cond (leb (gathered + room) (length s)) gathered 0

@@ -1,4 +1,4 @@
--- A frame that is stored in parts: type, length, fields in the part from place 8 on, groups behind them, checksum behind all. "Exactly 12+L bytes change".
+-- A frame that is stored in parts: type, length, fields in the part behind the header, groups behind them, checksum behind all; no other byte changes.
 -- Assumes nothing.
 use Prim.Native.Nat.{ℕ, _+_, _-_, _≤_}
 use mathlib.Core.Path.{_≡_, ap, sym, _∙_}

@@ -15,7 +15,7 @@ pub(crate) fn seal(kind: u32, size: usize, groups: &[u8], out: &mut [u8])
 {
     let len = size + groups.len();
     wire::put4(out, 0, kind);
-    wire::put4(out, 4, len as u32);
+    wire::put4(out, Frame::LENGTH_AT, len as u32);
     wire::copy(out, Frame::HEADER + size, groups);
     let end = Frame::HEADER + len;
     let sum = wire::checksum(&out[0..end]);
