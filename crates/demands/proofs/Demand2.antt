@@ -24,15 +24,18 @@ use Rattle.layout.proofs.Walk.{offset-next, offset-flat}
 use Rattle.record.specs.Asked.{WithTexts, withTexts, onceAccepted, Asked, found, noSuchEntry, judgeListed as judgedBody}
 use Rattle.record.specs.Record.{Reading, known, unknown, readAs, readListed, readBody, readBodyOf, readFrame, groupAs, groupListed, groupOf, groupsAs, groupsListed, groupsOf}
 use Rattle.record.proofs.Choice.{named-as}
-use Rattle.entries.specs.Paper.{meansCursor}
-use Rattle.entries.specs.Entry.{Entry, At, Stepped, entryAt, start, stepIn, step, entryListed, entryOf, quantityListed, quantityOf}
+use Rattle.entries.specs.Paper.{meansCursor, meansStep}
+use Rattle.entries.specs.declared.cursor.Cursor.{Cursor}
+use Rattle.entries.specs.declared.cursor.Step.{Step}
+use Rattle.entries.proofs.Steps.{onFrom, stepAfter, step-is-entry}
+use Rattle.entries.specs.Entry.{Entry, At, Stepped, entryAt, start, stepIn, step, entryListed, entryOf, quantityListed, quantityOf, entryFound}
 use Rattle.record.specs.Paper.{meansRecord, meansFrameReading}
 use Rattle.bodies.specs.Body.{encode, body, bodyLength, exact}
 use Rattle.writer.specs.Write.{header, withSum, frameOf, writeKnown, writeJudged, outputWritten, write, writeLeaves}
 use Rattle.bodies.proofs.Bodies.{exactly}
 use Rattle.writer.proofs.Judging.{known-of}
 use Rattle.bodies.proofs.Round.{length-encode}
-use Rattle.demands.specs.Demand2.{ByTheRules, Reader, Accepted, with-value, Unlisted, shownSum, bytesOf, Column, Tail, Leaves, frame-first, as-it-stood, Writer, Output, Held, Reads, ReadsBack, NoTail, SameBytes}
+use Rattle.demands.specs.Demand2.{ByTheRules, StepsTo, last-step, then-on, SameEntries, Reader, Accepted, with-value, Unlisted, shownSum, bytesOf, Column, Tail, Leaves, frame-first, as-it-stood, Writer, Output, Held, Reads, ReadsBack, NoTail, SameBytes}
 use Rattle.demands.specs.Rules.{_if_, Judged, success, here, later}
 use Rattle.demands.proofs.Calls.{frame-read-as, frame-body-as, frame-walk-as, groups-of-as, read-frame-as, read-as, judge-as, group-of-as, entry-of-as, quantity-of-as, start-as, step-as, write-as}
 use Rattle.demands.proofs.Tail.{judged-tail, same-entry, read-tail, groups-tail, group-as-tail, entry-in-tail, quantity-in-tail, start-tail}
@@ -58,6 +61,24 @@ by-the-rules =
       start = λ type b c h. start-as h;
       step = λ c type b x h. step-as h;
     }
+
+-- ---- entries by a cursor and by position
+
+unit-judged : (v : Answer Unit) → Accepted v → v ≡ accepted tt
+unit-judged (accepted u) k = refl
+unit-judged (refused n vs) k = not-both k
+
+follows : {type i : ℕ} {b : List ℕ} {c : Cursor} {x : Step} → StepsTo type b i c x → meansStep x ≡ stepAfter (named type) b i (meansCursor c)
+unfolding stepAfter
+follows (last-step h) = step-as h
+follows {type} {b = b} (then-on {i = i} z h e f p) =
+    follows p ∙ ap (stepAfter (named type) b i) f ∙ sym (ap (λ (w : Answer (Asked Stepped)). onFrom w (stepAfter (named type) b i)) (sym (step-as h) ∙ e))
+
+pub same-entries : SameEntries
+same-entries type i b v c x a h k s p q =
+    ap entryFound (follows p ∙ ap (stepAfter (named type) b i) (start-as s))
+    ∙ step-is-entry type b i (unit-judged (judgedBody (named type) b) (subst Accepted (judge-as h) k))
+    ∙ sym (entry-of-as q)
 
 -- ---- acceptance
 
@@ -120,10 +141,6 @@ then-judged : {A : Type 0} (v : Answer Unit) (a : A) → Accepted (andThen v (λ
 unfolding andThen
 then-judged (accepted u) a k = refl
 then-judged (refused n vs) a k = not-both k
-
-unit-judged : (v : Answer Unit) → Accepted v → v ≡ accepted tt
-unit-judged (accepted u) k = refl
-unit-judged (refused n vs) k = not-both k
 
 read-longer : (l : Listed) (type : ℕ) (b t : List ℕ) → Accepted (readListed l type b .answer) → readListed l type (b ++ t) ≡ readListed l type b
 unfolding readAs

@@ -44,6 +44,10 @@ use Rattle.demands.specs.Calls.{FrameRead, FrameBody, FrameWalk, ReadFra
 use Rattle.demands.specs.Rules.{Rule}
 use Rattle.demands.specs.Demand1.{readerRules, writerRules}
 
+-- accepted, whatever the value
+pub data Accepted {A : Type 0} : Answer A → Type 0 where
+  with-value : (x : A) → Accepted (accepted x)
+
 -- ---- what is read
 
 -- D21: the frame, body and walk, the record, groups, entries and cursor that the rules' definitions give for the same bytes
@@ -64,11 +68,22 @@ pub record ByTheRules : Type 0 where
   pub start : (type : ℕ) (b : List ℕ) (c : Cursor) → CursorStart type b c → meansCursor c ≡ stepped-as.start (named type) b
   pub step : (c : Cursor) (type : ℕ) (b : List ℕ) (x : Step) → CursorStep c type b x → meansStep x ≡ stepped-as.step (named type) b (meansCursor c)
 
--- ---- acceptance: exactly where none of the conditions of demand 1 holds
+-- ---- entries by a cursor and by position
 
--- accepted, whatever the value
-pub data Accepted {A : Type 0} : Answer A → Type 0 where
-  with-value : (x : A) → Accepted (accepted x)
+-- A6: what step i from a cursor on answers, from 0, where each step before it found an entry
+pub data StepsTo (type : ℕ) (b : List ℕ) : ℕ → Cursor → Step → Type 0 where
+  last-step : {c : Cursor} {x : Step} → CursorStep c type b x → StepsTo type b zero c x
+  then-on :
+      {i : ℕ} {c d : Cursor} {x y : Step} (z : stepped-as.Stepped) → CursorStep c type b y → meansStep y ≡ accepted (judged-as.found z) →
+      meansCursor d ≡ z .onward → StepsTo type b i d x → StepsTo type b (suc i) c x
+
+-- A2, A6: in an accepted body step i from the start gives entry i
+abbrev pub SameEntries : Type 0
+SameEntries =
+    (type i : ℕ) (b : List ℕ) (v : Verdict) (c : Cursor) (x : Step) (a : AskedEntry) → Judge type b v → Accepted (layout-paper.meansVerdict v) →
+    CursorStart type b c → StepsTo type b i c x → EntryOf type b i a → stepped-as.entryFound (meansStep x) ≡ meansAskedEntry a
+
+-- ---- acceptance: exactly where none of the conditions of demand 1 holds
 
 -- no condition of some rules holds
 abbrev pub NoneOf : List Rule → Type 0

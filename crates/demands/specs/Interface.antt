@@ -57,7 +57,7 @@ use Rattle.demands.specs.CalledFromC.{FrameFromC, JudgeFromC, RecordFrom
 use Rattle.demands.specs.Rules.{Rule}
 use Rattle.demands.specs.Demand1.{frameRules, bodyRules, stepRules, writerRules, setUpRules, arrivalRules, requestRules}
 use Rattle.demands.specs.Demand2.{Held, NoTail}
-use Rattle.demands.specs.Play.{Callable, Turn, Play, Fresh}
+use Rattle.demands.specs.Play.{Callable, AllCallable, Turn, Play, Fresh}
 
 -- ---- demand 1: the numbers
 
@@ -236,6 +236,22 @@ pub record Playing (t : Tracker) (l : List Numbered) (u : Tracker) : Type 0 wher
 -- C9: so is every playing into lent arrays
 abbrev pub PlaysAsPlayed : Type 0
 PlaysAsPlayed = (t u : Tracker) (l : List Numbered) → PlayFromC t l u → Playing t l u
+
+-- the arrivals that were numbered
+abbrev pub arrivalsIn : List Numbered → List Arrival
+arrivalsIn [] = []
+arrivalsIn (x ∷ l) = x .arrival ∷ arrivalsIn l
+
+-- a list of arrivals has a playing into the arrays of a tracker
+pub record PlayableFromC (t : Tracker) (l : List Arrival) : Type 0 where
+  pub steps : List Numbered
+  pub end : Tracker
+  pub plays : PlayFromC t steps end
+  pub same : arrivalsIn steps ≡ l
+
+-- C9, D31: so there is something to say of every list from C too
+abbrev pub EveryListPlaysFromC : Type 0
+EveryListPlaysFromC = (t : Tracker) (l : List Arrival) → AllCallable l → PlayableFromC t l
 
 -- T1, D31: a set-up that is answered plainly gives a fresh record
 abbrev pub StartsFresh : Type 0

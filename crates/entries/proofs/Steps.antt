@@ -7,13 +7,26 @@ use mathlib.Core.List.{List}
 use native.Mathlib.Omega.{arith}
 use borrow.Author.Tests.{lt-ltb, le-ltb}
 use lib.Dec.{lit<, leb·suc-suc}
-use Rattle.wire.specs.Answer.{accepted, guard, andThen}
+use Rattle.wire.specs.Answer.{Answer, accepted, refused, guard, andThen}
 use Rattle.layout.specs.Layout.{Message, fields, Listed, listed, unlisted, named, Group, Behind, nothing, groups, entries, behind, Entries, entryGroup, ranges}
 use Rattle.layout.specs.Group.{shown, shownOffset, nextOffset, groupOffset, fit, quantities, groupRanges, judgeGroups, groupsStart, countAt, judgeBody}
 use Rattle.layout.proofs.Walk.{and-both, fit-fewer, ahead, groupRanges-step, groupRanges-none, Good, good}
-use Rattle.record.specs.Asked.{noSuchEntry, below, judgeListed, judge}
-use Rattle.entries.specs.Entry.{Entry, entryAt, entryListed, entryOf, At, start, stepIn, step, stepAfter, entryFound}
+use Rattle.record.specs.Asked.{Asked, found, noSuchEntry, below, judgeListed, judge}
+use Rattle.entries.specs.Entry.{Entry, entryAt, entryListed, entryOf, At, Stepped, start, stepIn, step, entryFound}
 use Rattle.entries.proofs.Entries.{NoEntries, bare, grouped, unknown, no-step, no-entry, groups-accepted, step-none, step-found}
+
+-- ---- step after step
+
+-- from what a step answers on to the cursor behind its entry, if it found one
+abbrev pub onFrom : Answer (Asked Stepped) → (At → Answer (Asked Stepped)) → Answer (Asked Stepped)
+onFrom (accepted (found x)) go = go (x .onward)
+onFrom (accepted noSuchEntry) go = accepted noSuchEntry
+onFrom (refused n vs) go = refused n vs
+
+-- step i from a cursor on, from 0
+unfoldable pub stepAfter : Listed → List ℕ → ℕ → At → Answer (Asked Stepped)
+stepAfter l s zero c = step l s c
+stepAfter l s (suc i) c = onFrom (step l s c) (stepAfter l s i)
 
 pred-is : (k : ℕ) → suc k - 1 ≡ k
 pred-is k = omega arith

@@ -1,6 +1,6 @@
 -- What an entry says; entries by position, shown quantities and the cursor, over layout's offsetFrom, shown and judgeGroups.
 -- Assumes nothing.
-use Prim.Native.Nat.{ℕ, zero, suc, _+_, _-_, _*_}
+use Prim.Native.Nat.{ℕ, _+_, _-_, _*_}
 use mathlib.Core.Bool.{Bool, false, cond}
 use mathlib.Core.List.{List, [], _∷_}
 use lib.Dec.{eqb}
@@ -237,19 +237,6 @@ stepIn (entries e) s c =
 unfoldable pub step : Listed → List ℕ → At → Answer (Asked Stepped)
 step (listed m) s c = stepIn (behind m) s c
 step unlisted s c = accepted noSuchEntry
-
--- ---- step after step
-
--- from what a step answers on to the cursor behind its entry, if it found one
-abbrev pub onFrom : Answer (Asked Stepped) → (At → Answer (Asked Stepped)) → Answer (Asked Stepped)
-onFrom (accepted (found x)) go = go (x .onward)
-onFrom (accepted noSuchEntry) go = accepted noSuchEntry
-onFrom (refused n vs) go = refused n vs
-
--- step i from a cursor on, from 0
-unfoldable pub stepAfter : Listed → List ℕ → ℕ → At → Answer (Asked Stepped)
-stepAfter l s zero c = step l s c
-stepAfter l s (suc i) c = onFrom (step l s c) (stepAfter l s i)
 
 -- the entry that a step answers, without the cursor
 abbrev pub entryFound : Answer (Asked Stepped) → Answer (Asked Entry)
