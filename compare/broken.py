@@ -69,7 +69,7 @@ def first_difference(scratch):
     ran = subprocess.run([*runner, scratch / "longer", *RUN], capture_output=True, text=True)
     told = re.search(r"^difference at input (\d+) .*?^call: +(.*?)$", ran.stdout, re.M | re.S)
     if told:
-        return f"{re.split(r' on Tracker| Cursor', told[2])[0]} (input {told[1]})"
+        return f"{re.split(r' on Tracker| on Stream| Cursor', told[2])[0]} (input {told[1]})"
     return "no difference" if ran.returncode == 0 else f"ended with {ran.returncode}"
 
 

@@ -1,14 +1,17 @@
-/* A receiver of two channels: reads a capture of any length from standard input, prints the levels of each snapshot, tracks
- * which numbers never came, and asks for them.
+/* A receiver of two channels: reads a capture of any length from standard input, as it would read a socket, prints the levels of
+ * each snapshot, tracks which numbers never came, and asks for them.
  *
  *     ./install target/prefix
  *     export PKG_CONFIG_PATH=$PWD/target/prefix/lib/pkgconfig
  *     cc examples/receiver.c $(pkg-config --cflags --libs orizhgum) -o receiver
  *     ./receiver < samples/opening.bin
  *
+ * It reads in cuts of any size, at most 65536 bytes; `./receiver BYTES` makes them smaller. What it prints is the same.
+ *
  * What a host does on each refusal:
- *  1 TOO_SHORT       reads more bytes; at the end of the input the capture is cut: stops
- *  2 TOO_LONG        the bytes are no frames: stops, or closes the line and connects anew
+ *  1 TOO_SHORT       only from orizhgum_stream_end: the capture is cut, or the line broke inside a frame: stops, or connects anew
+ *                    with a new stream
+ *  2 TOO_LONG        the bytes are no frames: stops, or closes the line and connects anew with a new stream
  *  3 WRONG_SUM       the same: behind a damaged frame nobody knows where the next one begins
  *  4 NOT_ITS_LAYOUT  passes the record over, and goes on behind its frame; from the writer: its own fault, texts or groups that
  *                    are not the type's
@@ -18,12 +21,22 @@
  *  8 NUMBER_TOO_LOW  never for a number of an accepted record: passes the arrival over
  *  9 TABLE_FULL      the channel has more gaps than the tracker holds, and the arrival is not counted: asks for what is missing,
  *                    or sets up a tracker anew
- * 10 MALFORMED       a list of channels that is not ascending, or a tracker that was changed by hand: its own fault, stops */
+ * 10 MALFORMED       a list of channels that is not ascending, a tracker or a stream that was changed by hand, or a buffer of
+ *                    fewer than ORIZHGUM_FRAME_LIMIT bytes: its own fault, stops
+ *
+ * And on the stream's other answers:
+ * 106 MORE           the cut is taken, and no frame is whole yet: reads the next cut
+ * 107 END            from orizhgum_stream_end: the stream ended behind a whole frame, and nothing is lost */
+#define _POSIX_C_SOURCE 200809L
+
 #include "orizhgum.h"
 
+#include <errno.h>
 #include <inttypes.h>
 #include <stdio.h>
-#include <string.h>
+#include <unistd.h>
+
+#define CUT_LIMIT 65536
 
 static struct orizhgum_tracker tracker;
 
@@ -40,7 +53,7 @@ static void print_decimal(int64_t number, int decimals)
     printf("%s%" PRIu64 ".%0*" PRIu64, sign, part / one, decimals, part % one);
 }
 
-/* 4 and 5: the record is passed over */
+/* 4 and 5: the record is passed over; 1 to 3, and 10: the stream is over */
 static void refused(uint64_t offset, uint32_t answer)
 {
     printf("%" PRIu64 " refused %" PRIu32 "\n", offset, answer);
@@ -190,65 +203,114 @@ static void print_channels(void)
     }
 }
 
-/* Reads frames until the input ends, one by one from a window of a few: 0 where it ended behind a whole frame */
-static int receive_all(void)
-{
-    static uint8_t window[4 * ORIZHGUM_FRAME_LIMIT];
-    size_t held = 0, from = 0;
-    uint64_t offset = 0, frames = 0;
+/* the line: its stream, the buffer that is lent to it, the offset of the next frame, and how many frames there were */
+static struct {
+    struct orizhgum_stream stream;
+    uint8_t buffer[ORIZHGUM_FRAME_LIMIT];
+    uint64_t offset;
+    uint64_t frames;
+} line;
 
-    for (;;) {
-        struct orizhgum_frame_answer frame = orizhgum_frame(window + from, held - from);
-        if (frame.answer == ORIZHGUM_TOO_SHORT) {
-            size_t more;
-            memmove(window, window + from, held - from);
-            held -= from;
-            from = 0;
-            more = fread(window + held, 1, sizeof window - held, stdin);
-            held += more;
-            if (more > 0) {
-                continue;
-            }
-            if (ferror(stdin)) {
-                perror("standard input");
+/* a cut of what has come, 0 bytes at the end; below 0 where the read fails */
+static ssize_t read_cut(uint8_t *cut, size_t most)
+{
+    ssize_t length;
+
+    do {
+        length = read(STDIN_FILENO, cut, most);
+    } while (length < 0 && errno == EINTR);
+    if (length < 0) {
+        perror("standard input");
+    }
+    return length;
+}
+
+/* all frames that a cut completes; what a call does not take of it is handed in again. 0 where the receiver goes on */
+static int push_cut(const uint8_t *cut, size_t length)
+{
+    while (length > 0) {
+        struct orizhgum_stream_answer told = orizhgum_stream_push(line.stream, line.buffer, sizeof line.buffer, cut, length);
+        line.stream = told.next;
+        if (told.answer == ORIZHGUM_OK) {
+            const uint8_t *frame = told.stands == ORIZHGUM_IN_CUT ? cut : line.buffer;
+            if (receive(line.offset, told.kind, frame + ORIZHGUM_HEADER, told.len)) {
                 return 1;
             }
-            if (held == 0) {
-                break;
-            }
-        }
-        if (frame.answer != ORIZHGUM_OK) {
-            printf("%" PRIu64 " refused %" PRIu32 "\n", offset, frame.answer);
+            line.offset += told.total;
+            line.frames++;
+        } else if (told.answer != ORIZHGUM_MORE) {
+            refused(line.offset, told.answer);
             return 1;
         }
-        if (receive(offset, frame.kind, window + from + ORIZHGUM_HEADER, frame.len)) {
-            return 1;
-        }
-        from += frame.total;
-        offset += frame.total;
-        frames++;
+        cut += told.took;
+        length -= told.took;
     }
-    printf("%" PRIu64 " end %" PRIu64 "\n", offset, frames);
     return 0;
 }
 
-int main(void)
+/* 0 where the stream ended behind a whole frame */
+static int end_line(void)
+{
+    struct orizhgum_stream_answer told = orizhgum_stream_end(line.stream, line.buffer, sizeof line.buffer);
+
+    line.stream = told.next;
+    if (told.answer != ORIZHGUM_END) {
+        refused(line.offset, told.answer);
+        return 1;
+    }
+    printf("%" PRIu64 " end %" PRIu64 "\n", line.offset, line.frames);
+    return 0;
+}
+
+/* all cuts of standard input, each of at most so many bytes */
+static int receive_all(size_t most)
+{
+    static uint8_t cut[CUT_LIMIT];
+    ssize_t length;
+
+    line.stream = orizhgum_stream_new();
+    while ((length = read_cut(cut, most)) > 0) {
+        if (push_cut(cut, (size_t)length)) {
+            return 1;
+        }
+    }
+    return length < 0 ? 1 : end_line();
+}
+
+/* the most bytes of a cut; 0 where the word is not a number from 1 to the limit */
+static size_t cut_size(const char *word)
+{
+    size_t bytes = 0;
+
+    for (; *word >= '0' && *word <= '9' && bytes <= CUT_LIMIT; word++) {
+        bytes = 10 * bytes + (size_t)(*word - '0');
+    }
+    return *word == '\0' && bytes <= CUT_LIMIT ? bytes : 0;
+}
+
+int main(int argc, char **argv)
 {
     static const uint16_t channels[] = {2011, 2012};
     struct orizhgum_start_answer start = orizhgum_set_up(channels, sizeof channels / sizeof *channels);
+    size_t most = argc == 2 ? cut_size(argv[1]) : CUT_LIMIT;
+    int failed;
 
+    if (argc > 2 || most == 0) {
+        fprintf(stderr, "usage: receiver [BYTES]; a cut has at most BYTES, 1 to %d\n", CUT_LIMIT);
+        return 2;
+    }
     if (start.answer != ORIZHGUM_OK) {
         fprintf(stderr, "set-up refused %" PRIu32 "\n", start.answer);
         return 1;
     }
     tracker = start.tracker;
-    if (receive_all()) {
-        return 1;
+    failed = receive_all(most);
+    if (!failed) {
+        print_channels();
     }
-    print_channels();
     if (fflush(stdout) != 0 || ferror(stdout)) {
         perror("standard output");
         return 1;
     }
-    return 0;
+    return failed;
 }

@@ -1,21 +1,23 @@
-/* Orizhgum: frames, records, entries, tracker and writer of the Shenzhen binary market data gateway, for a C or C++ host.
+/* Orizhgum: stream, frames, records, entries, tracker and writer of the Shenzhen binary market data gateway, for a C or C++ host.
  *
  * Every call of the archive is proved against its definition, for every input; orizhgum_tick, orizhgum_heard and
  * orizhgum_request are inline functions here, which hand a tracker's arrays to such calls. A call answers with a number: 0 is the
- * plain answer, 1 to 99 are the refusals, 100 and up the other answers. Look at it first. Beside a refusal, and beside ORIZHGUM_NO_SUCH_ENTRY, every
- * number and text is 0 and what was lent is as it stood, but for the cursor of a step, which comes back as it was handed in.
+ * plain answer, 1 to 99 are the refusals, 100 and up the other answers. Look at it first. Beside a refusal, and beside
+ * ORIZHGUM_NO_SUCH_ENTRY, every number and text is 0 and what was lent is as it stood. Two calls give back more beside it: a step
+ * its cursor as it was handed in, and a stream what was taken, the next state and, at 2 and 3, the bytes that it gathered in its
+ * buffer.
  *
  * Calls are reentrant: there is no state but what the host lends, and no heap. Threads may call at the same time, as long as
  * none writes what another reads or writes.
  *
- * The stack that a call takes, in bytes, above what an empty function takes: at most 1,000 for frames, records, groups,
+ * The stack that a call takes, in bytes, above what an empty function takes: at most 1,000 for stream, frames, records, groups,
  * entries and the writer; at most 1,000 for orizhgum_tick, orizhgum_heard and orizhgum_request; at most 5,000 for
  * orizhgum_set_up, which answers with a whole tracker.
  *
  * The host's part, which no proof covers:
  * - a pointer with a length refers to as many elements as the length says; NULL goes with length 0 only; a pointer to an
  *   array of a tracker refers to as many as the struct has;
- * - an output, and a lent int64_t, is the host's to write, and overlaps none of the inputs of the same call. */
+ * - an output, a stream's buffer and a lent int64_t are the host's to write, and overlap none of the inputs of the same call. */
 #ifndef ORIZHGUM_H
 #define ORIZHGUM_H
 
@@ -29,9 +31,9 @@ extern "C" {
 /* ---- the version of this header and of the archive that goes with it */
 
 #define ORIZHGUM_VERSION_MAJOR 0
-#define ORIZHGUM_VERSION_MINOR 2
+#define ORIZHGUM_VERSION_MINOR 3
 #define ORIZHGUM_VERSION_PATCH 0
-#define ORIZHGUM_VERSION "0.2.0"
+#define ORIZHGUM_VERSION "0.3.0"
 
 /* ---- sizes in bytes, and decimals */
 
@@ -77,13 +79,15 @@ enum {
     ORIZHGUM_NO_SUCH_CHANNEL = 7,  /* the channel is not in the tracker */
     ORIZHGUM_NUMBER_TOO_LOW = 8,   /* a tick number below 1, or a last number below 0 */
     ORIZHGUM_TABLE_FULL = 9,       /* the next state would need a 33rd run */
-    ORIZHGUM_MALFORMED = 10,       /* a list of channels, or a tracker, that breaks the rules */
+    ORIZHGUM_MALFORMED = 10,       /* a list of channels, a tracker or a stream that breaks the rules */
     ORIZHGUM_UNKNOWN = 100,        /* a type that is not listed */
     ORIZHGUM_NO_SUCH_ENTRY = 101,  /* a position not below the count */
     ORIZHGUM_NO_PRICE = 102,       /* an entry that says no price; the lent number is as it stood */
     ORIZHGUM_LATE = 103,           /* a tick that was missing */
     ORIZHGUM_DUPLICATE = 104,      /* a tick that had come before */
-    ORIZHGUM_NOTHING_MISSING = 105 /* a request for a channel without a missing number */
+    ORIZHGUM_NOTHING_MISSING = 105, /* a request for a channel without a missing number */
+    ORIZHGUM_MORE = 106,           /* the whole cut is taken, and no frame is whole yet */
+    ORIZHGUM_END = 107             /* the stream was told to have ended, and nothing is left over */
 };
 
 /* ---- types */
@@ -111,6 +115,48 @@ struct orizhgum_frame_answer {
 };
 
 struct orizhgum_frame_answer orizhgum_frame(const uint8_t *bytes, size_t length);
+
+/* ---- the stream: bytes as the network cuts them, frames one at a time. The host lends one buffer of ORIZHGUM_FRAME_LIMIT bytes or
+ * more for the whole stream, which keeps an unfinished frame between the calls; its bytes behind that are free, and nobody has to
+ * clear it. A host that changes the state, or held bytes of the buffer, by hand gets 10, or a stream of its own making, and never
+ * anything undefined. */
+
+/* how many bytes of an unfinished frame the buffer begins with; and how the stream stands: 0 it goes on, 1 it has ended, 2 or 3 it
+ * stopped by that refusal */
+struct orizhgum_stream {
+    size_t held;
+    uint32_t mark;
+};
+
+/* where the bytes of a frame stand */
+enum {
+    ORIZHGUM_IN_CUT = 1,   /* the cut begins with them: they were not copied */
+    ORIZHGUM_IN_BUFFER = 2 /* the buffer begins with them, up to the next call */
+};
+
+/* the frame's type, the length of its body, which stands behind the header, and of the frame, 0 where the answer is not 0; how many
+ * bytes of the cut were taken; and the stream for the next call */
+struct orizhgum_stream_answer {
+    uint32_t answer;
+    uint32_t stands;
+    uint32_t kind;
+    size_t len;
+    size_t total;
+    size_t took;
+    struct orizhgum_stream next;
+};
+
+/* a stream of which nothing has come */
+struct orizhgum_stream orizhgum_stream_new(void);
+
+/* a cut of the stream, as long as it comes, also of no bytes: 0 with a frame, ORIZHGUM_MORE, or refused by 2 or 3, after which every
+ * call takes nothing and repeats its answer. What is not taken is handed in again, alone or with what comes behind it. 10, before
+ * all else, is for a stream and a buffer that no calls lead to; both are as they stood then */
+struct orizhgum_stream_answer orizhgum_stream_push(struct orizhgum_stream stream, uint8_t *buffer, size_t buffer_length,
+    const uint8_t *cut, size_t cut_length);
+
+/* the stream has ended: ORIZHGUM_END, or refused by 1 where a frame is unfinished; then every call repeats that answer */
+struct orizhgum_stream_answer orizhgum_stream_end(struct orizhgum_stream stream, const uint8_t *buffer, size_t buffer_length);
 
 /* ---- how a body of a type reads: ORIZHGUM_OK, refused by 4 or 5, or ORIZHGUM_UNKNOWN */
 

@@ -3,6 +3,8 @@
 
 #![forbid(unsafe_code)]
 
+mod streams;
+
 use crate::inputs::{Asked, Call, Input, Inputs, Way};
 use crate::layout::{layout, SNAPSHOT};
 use crate::receiver::{
@@ -90,11 +92,16 @@ fn same<T: PartialEq + fmt::Debug>(
     if first == second {
         return Ok(first);
     }
-    Err(Told {
-        call: call(),
+    Err(told(call(), &first, &second))
+}
+
+/// A call, and two things about it that do not go together.
+fn told(call: String, first: &dyn fmt::Debug, second: &dyn fmt::Debug) -> Told {
+    Told {
+        call,
         first: format!("{first:?}"),
         second: format!("{second:?}"),
-    })
+    }
 }
 
 /// Lent bytes, told in hex.
@@ -199,6 +206,13 @@ impl Play<'_> {
                 tracker,
                 calls,
             } => self.calls(*way, **tracker, calls),
+            Input::Stream {
+                way,
+                start,
+                buffer,
+                bytes,
+                calls,
+            } => self.stream(*way, *start, buffer, bytes, calls),
         }
     }
 

@@ -8,15 +8,17 @@ mod damage;
 mod dice;
 mod drafts;
 mod pushes;
+mod streams;
 mod trackers;
 
 pub use bodies::frame_of;
 pub use dice::Dice;
 pub use pushes::{pushes, End, Push};
+pub use streams::Unled;
 pub use trackers::Way;
 
 use crate::layout::{layout, INDEX, LISTED, SNAPSHOT};
-use crate::receiver::{Cursor, Tracker, NUMBERS};
+use crate::receiver::{Cursor, Stream, Tracker, NUMBERS};
 use crate::second::rules::Rules;
 use bodies::{Made, Wish};
 use std::fmt;
@@ -37,6 +39,21 @@ pub enum Call {
     Tick { channel: u16, number: i64 },
     Heartbeat { channel: u16, last: i64, end: u8 },
     Request { channel: u16, output: usize },
+}
+
+/// A call on a stream.
+#[derive(Clone, Copy, PartialEq, Eq, Debug)]
+pub enum Hand {
+    /// The bytes of the stream up to this offset that were not taken yet. What
+    /// is left of them then comes again alone, until all are taken; or it
+    /// comes with the next cut.
+    Cut {
+        to: usize,
+        alone: bool,
+    },
+    /// A cut of no bytes.
+    Nothing,
+    End,
 }
 
 /// One input. `made_as` is the type before any damage, `pushed` the place in
@@ -85,6 +102,16 @@ pub enum Input {
         tracker: Box<Tracker>,
         calls: Vec<Call>,
     },
+    /// A fresh stream or a made-up one, to which no calls lead in one way or
+    /// some do; its buffer as it stands before; the bytes that come, and calls
+    /// one after the other.
+    Stream {
+        way: Option<Unled>,
+        start: Option<Stream>,
+        buffer: Vec<u8>,
+        bytes: Vec<u8>,
+        calls: Vec<Hand>,
+    },
 }
 
 /// Input after input of a seed.
@@ -95,7 +122,7 @@ pub struct Inputs {
 }
 
 /// Inputs repeat their kind after so many.
-const SLOTS: u64 = 32;
+const SLOTS: u64 = 35;
 
 impl Inputs {
     pub fn new(rules: &Rules, seed: u64) -> Inputs {
@@ -122,7 +149,9 @@ impl Inputs {
             27 => trackers::set_up(&mut dice),
             28..=29 => trackers::arrivals(&mut dice, turn),
             30 => trackers::malformed(&mut dice, turn),
-            _ => trackers::good(&mut dice),
+            31 => trackers::good(&mut dice),
+            32..=33 => streams::cut_up(&self.rules, &mut dice),
+            _ => streams::made_up(&self.rules, &mut dice, turn),
         }
     }
 
@@ -349,6 +378,20 @@ impl fmt::Display for Input {
             }
             Input::Tracker { tracker, calls, .. } => {
                 write!(out, "{tracker:?}\ncalls {calls:?}")
+            }
+            Input::Stream {
+                start,
+                buffer,
+                bytes,
+                calls,
+                ..
+            } => {
+                match start {
+                    None => writeln!(out, "a fresh stream")?,
+                    Some(start) => writeln!(out, "{start:?}")?,
+                }
+                writeln!(out, "buffer {}", Hex(buffer))?;
+                write!(out, "bytes {}\ncalls {calls:?}", Hex(bytes))
             }
         }
     }

@@ -250,10 +250,65 @@ pub enum RequestAnswer {
     Written(usize),
 }
 
+/// A stream between its calls: how many bytes of an unfinished frame the lent
+/// buffer begins with, and how it stands: 0 goes on, 1 was told to have ended,
+/// 2 and 3 stopped at that refusal. Its layout is the C header's.
+#[repr(C)]
+#[derive(Clone, Copy, PartialEq, Eq, Debug)]
+pub struct Stream {
+    pub held: usize,
+    pub mark: u32,
+}
+
+/// Where the bytes of a stream's frame stand: the cut or the buffer begins
+/// with them.
+#[derive(Clone, Copy, PartialEq, Eq, Debug)]
+pub enum Stands {
+    InCut,
+    InBuffer,
+}
+
+/// What a call of the stream found.
+#[derive(Clone, Copy, PartialEq, Eq, Debug)]
+pub enum Given {
+    Refused(u32),
+    /// The whole cut is taken, and no frame is whole yet.
+    More,
+    /// The stream has ended, with no bytes left over.
+    End,
+    /// A frame: where it stands, its type, L and 12+L.
+    Frame {
+        stands: Stands,
+        kind: u32,
+        length: usize,
+        size: usize,
+    },
+}
+
+/// The answer of a stream's call: what it found, how many bytes of the cut it
+/// took, and the stream for the next call.
+#[derive(Clone, Copy, PartialEq, Eq, Debug)]
+pub struct StreamAnswer {
+    pub given: Given,
+    pub took: usize,
+    pub next: Stream,
+}
+
 /// The calls of a receiver.
 pub trait Receiver {
     /// Reads the frame at the beginning of the bytes: 1 to 3.
     fn frame(&self, bytes: &[u8]) -> FrameAnswer;
+
+    /// A stream of which nothing has come.
+    fn fresh(&self) -> Stream;
+
+    /// A cut of the stream comes: 10; where it has stopped, its answer again;
+    /// then a frame, 2, 3 or more. Held bytes are the buffer's first.
+    fn push(&self, stream: Stream, buffer: &mut [u8], cut: &[u8]) -> StreamAnswer;
+
+    /// The stream has ended: 10; where it has stopped, its answer again; then
+    /// 1 or end. Nobody writes the buffer.
+    fn end(&self, stream: Stream, buffer: &mut [u8]) -> StreamAnswer;
 
     /// Reads a body: unknown, 4, 5 or the record.
     fn read(&self, kind: u32, body: &[u8]) -> ReadAnswer;

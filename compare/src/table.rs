@@ -2,8 +2,9 @@
 
 #![forbid(unsafe_code)]
 
-use crate::inputs::{pushes, End, Push, Way};
+use crate::inputs::{pushes, End, Push, Unled, Way};
 use crate::layout::{layout, LISTED};
+use crate::receiver::Stream;
 use crate::second::rules::Rules;
 use std::fmt;
 
@@ -31,6 +32,13 @@ pub enum Column {
     Tick,
     Heartbeat,
     Request,
+    FrameInCut,
+    FrameInBuffer,
+    More,
+    Ended,
+    Cut,
+    NoBytes,
+    End,
     /// A field pushed over an end, read, or written.
     Pushed(End, bool),
 }
@@ -62,6 +70,12 @@ impl Column {
             Column::Tick => "tick",
             Column::Heartbeat => "heartbeat",
             Column::Request => "request",
+            Column::FrameInCut => "in cut",
+            Column::FrameInBuffer => "in buffer",
+            Column::More => "more",
+            Column::Ended | Column::End => "end",
+            Column::Cut => "push",
+            Column::NoBytes => "no bytes",
         };
         name.to_string()
     }
@@ -190,12 +204,14 @@ pub enum Part {
     Entries,
     Tracker,
     Malformed,
+    Stream,
+    Unled,
     Pushed,
 }
 
 /// The table.
 pub struct Table {
-    sections: [Section; 7],
+    sections: [Section; 9],
     pushes: Vec<(usize, End)>,
 }
 
@@ -216,6 +232,8 @@ impl Table {
                 entries(),
                 tracker(),
                 malformed(),
+                stream(),
+                unled(),
                 pushed(&all, rows),
             ],
             pushes: places,
@@ -230,6 +248,15 @@ impl Table {
     pub fn meet_push(&mut self, place: usize, written: bool) {
         let (row, end) = self.pushes[place];
         self.meet(Part::Pushed, row, Column::Pushed(end, written));
+    }
+
+    /// How many calls of the stream were met.
+    pub fn stream_calls(&self) -> u64 {
+        self.sections[Part::Stream as usize]
+            .counts
+            .iter()
+            .flatten()
+            .sum()
     }
 
     /// Reachable cells with fewer than `least`, and unreachable ones met.
@@ -426,6 +453,66 @@ fn malformed() -> Section {
         "malformed trackers, refused by 10",
         Way::ALL.iter().map(|way| way.name().to_string()).collect(),
         &[Column::Tick, Column::Heartbeat, Column::Request],
+        |_, _| None,
+    )
+}
+
+/// The row of a call of the stream: whether it tells the end, and the state
+/// that it is handed.
+pub fn stream_row(end: bool, stream: Stream) -> usize {
+    let state = match stream {
+        Stream { held: 0, mark: 0 } => 0,
+        Stream { mark: 0, .. } => 1,
+        _ => 2,
+    };
+    state + if end { 3 } else { 0 }
+}
+
+fn stream() -> Section {
+    let rows = named(&[
+        "push, none held",
+        "push, bytes held",
+        "push, stopped",
+        "end, none held",
+        "end, bytes held",
+        "end, stopped",
+    ]);
+    let columns = [
+        Column::FrameInCut,
+        Column::FrameInBuffer,
+        Column::More,
+        Column::Ended,
+        Refused(1),
+        Refused(2),
+        Refused(3),
+        Refused(10),
+    ];
+    Section::new("stream", rows, &columns, |row, column| {
+        match (row, column) {
+            (_, Refused(10)) => None,
+            (0, Column::FrameInBuffer) => Some("a frame that is whole in the cut is not copied"),
+            (1, Column::FrameInCut) => Some("a part of the frame was held"),
+            (0 | 1, Column::Ended | Refused(1)) => Some("the stream goes on"),
+            (2 | 5, Column::FrameInCut | Column::FrameInBuffer | Column::More) => {
+                Some("a stream that has stopped takes nothing")
+            }
+            (3, Refused(1)) => Some("no bytes are left over"),
+            (4, Column::Ended) => Some("bytes are left over"),
+            (3, Column::Ended) | (4, Refused(1)) => None,
+            (3 | 4, _) => Some("an end reads no bytes"),
+            _ => None,
+        }
+    })
+}
+
+fn unled() -> Section {
+    Section::new(
+        "streams that no calls lead to, refused by 10",
+        Unled::ALL
+            .iter()
+            .map(|way| way.name().to_string())
+            .collect(),
+        &[Column::Cut, Column::NoBytes, Column::End],
         |_, _| None,
     )
 }

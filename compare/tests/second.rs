@@ -16,6 +16,8 @@ mod frames;
 mod header;
 #[path = "second/samples.rs"]
 mod samples;
+#[path = "second/streams.rs"]
+mod streams;
 #[path = "second/text.rs"]
 mod text;
 #[path = "second/writing.rs"]

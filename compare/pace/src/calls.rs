@@ -1,7 +1,7 @@
 //! The product's calls that are run, with slices for pointer and length.
 pub use compare::layout::{CHANNEL_HEARTBEAT, HEARTBEAT, INDEX, ORDER, RESEND, SNAPSHOT, TRADE};
 pub use compare::product::header::*;
-pub use compare::receiver::{Cursor, Tracker};
+pub use compare::receiver::{Cursor, Stream, Tracker};
 
 pub fn frame(bytes: &[u8]) -> FrameAnswer {
     unsafe { orizhgum_frame(bytes.as_ptr(), bytes.len()) }
@@ -9,6 +9,19 @@ pub fn frame(bytes: &[u8]) -> FrameAnswer {
 
 pub fn judge(kind: u32, body: &[u8]) -> u32 {
     unsafe { orizhgum_judge(kind, body.as_ptr(), body.len()) }
+}
+
+pub fn stream_new() -> Stream {
+    unsafe { orizhgum_stream_new() }
+}
+
+pub fn stream_push(stream: Stream, buffer: &mut [u8], cut: &[u8]) -> StreamAnswer {
+    let (lent, room) = (buffer.as_mut_ptr(), buffer.len());
+    unsafe { orizhgum_stream_push(stream, lent, room, cut.as_ptr(), cut.len()) }
+}
+
+pub fn stream_end(stream: Stream, buffer: &[u8]) -> StreamAnswer {
+    unsafe { orizhgum_stream_end(stream, buffer.as_ptr(), buffer.len()) }
 }
 
 macro_rules! read {

@@ -1,6 +1,7 @@
 //! Runs the calls of include/orizhgum.h beside hand-written Rust that does the same checks, in one process:
 //! `pace time|count CAPTURE WORDS..`; given words, only the rows that have them all.
 mod calls;
+mod cuts;
 mod entries;
 mod feed;
 mod frames;
@@ -9,6 +10,7 @@ mod race;
 mod ranges;
 mod records;
 mod requests;
+mod streams;
 mod tables;
 mod ticks;
 mod tracker;
@@ -28,6 +30,7 @@ fn main() {
         race::head();
     }
     frames::run(&bench);
+    cuts::run(&bench);
     records::run(&bench);
     entries::run(&bench);
     writing::run(&bench);

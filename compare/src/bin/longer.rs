@@ -36,6 +36,8 @@ fn main() -> ExitCode {
             print!("{table}");
             let faults = table.faults(LEAST);
             faults.iter().for_each(|fault| println!("{fault}"));
+            let calls = table.stream_calls();
+            print!("{calls} calls of the stream; ");
             println!("{inputs} inputs of seed {seed}, {} faults", faults.len());
             if faults.is_empty() {
                 ExitCode::SUCCESS

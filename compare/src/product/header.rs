@@ -2,7 +2,7 @@
 //! and number is called there, for the test that holds one to the other.
 
 use crate::layout;
-use crate::receiver::{Cursor, Tracker, CHANNELS, RUNS, TEXTS};
+use crate::receiver::{Cursor, Stream, Tracker, CHANNELS, RUNS, TEXTS};
 use crate::second::rules::Rules;
 use std::mem::{offset_of, size_of};
 
@@ -18,6 +18,18 @@ pub struct FrameAnswer {
     pub kind: u32,
     pub len: usize,
     pub total: usize,
+}
+
+#[repr(C)]
+#[derive(Clone, Copy, Debug)]
+pub struct StreamAnswer {
+    pub answer: u32,
+    pub stands: u32,
+    pub kind: u32,
+    pub len: usize,
+    pub total: usize,
+    pub took: usize,
+    pub next: Stream,
 }
 
 #[repr(C)]
@@ -237,6 +249,8 @@ named! {
     i64 = "int64_t",
     usize = "size_t",
     FrameAnswer = "struct orizhgum_frame_answer",
+    Stream = "struct orizhgum_stream",
+    StreamAnswer = "struct orizhgum_stream_answer",
     Order = "struct orizhgum_order",
     Trade = "struct orizhgum_trade",
     ChannelHeartbeat = "struct orizhgum_channel_heartbeat",
@@ -292,6 +306,8 @@ macro_rules! laid_out {
 pub fn structs() -> String {
     laid_out! {
         FrameAnswer = FrameAnswer { answer, kind, len, total }
+        Stream = Stream { held, mark }
+        StreamAnswer = StreamAnswer { answer, stands, kind, len, total, took, next }
         Order = Order { channel, number, order_price, quantity, side, time, order_type }
         Trade = Trade { channel, number, bid_number, offer_number, trade_price, quantity, execution, time }
         ChannelHeartbeat = ChannelHeartbeat { channel, last_number, end }
@@ -325,7 +341,11 @@ pub fn structs() -> String {
 
 /// A call as C declares it.
 fn prototype(name: &str, answer: String, taken: &[String]) -> String {
-    format!("{answer} {name}({});\n", taken.join(", "))
+    let taken = match taken {
+        [] => "void".to_string(),
+        _ => taken.join(", "),
+    };
+    format!("{answer} {name}({taken});\n")
 }
 
 /// Declares calls, and a function that writes them as C does.
@@ -392,6 +412,10 @@ calls! {
     reading:
     fn orizhgum_frame(bytes: *const u8, length: usize) -> FrameAnswer;
 
+    fn orizhgum_stream_new() -> Stream;
+    fn orizhgum_stream_push(stream: Stream, buffer: *mut u8, buffer_length: usize, cut: *const u8, cut_length: usize) -> StreamAnswer;
+    fn orizhgum_stream_end(stream: Stream, buffer: *const u8, buffer_length: usize) -> StreamAnswer;
+
     fn orizhgum_judge(kind: u32, body: *const u8, length: usize) -> u32;
     fn orizhgum_order(body: *const u8, length: usize) -> Answer<Order>;
     fn orizhgum_trade(body: *const u8, length: usize) -> Answer<Trade>;
@@ -442,6 +466,12 @@ pub const NO_PRICE: u32 = 102;
 pub const LATE: u32 = 103;
 pub const DUPLICATE: u32 = 104;
 pub const NOTHING_MISSING: u32 = 105;
+pub const MORE: u32 = 106;
+pub const END: u32 = 107;
+
+/// Where the bytes of a stream's frame stand, by number.
+pub const IN_CUT: u32 = 1;
+pub const IN_BUFFER: u32 = 2;
 
 /// What an entry says, by number.
 pub const SAYS_LEVEL: u32 = 1;
@@ -487,6 +517,10 @@ pub fn numbers() -> String {
             LATE = "LATE",
             DUPLICATE = "DUPLICATE",
             NOTHING_MISSING = "NOTHING_MISSING",
+            MORE = "MORE",
+            END = "END",
+            IN_CUT = "IN_CUT",
+            IN_BUFFER = "IN_BUFFER",
             SAYS_LEVEL = "SAYS_LEVEL",
             SAYS_LEVEL_WITHOUT_PRICE = "SAYS_LEVEL_WITHOUT_PRICE",
             SAYS_PRICE = "SAYS_PRICE",
@@ -542,7 +576,7 @@ fn sizes() -> String {
 }
 
 /// The version's three numbers.
-const VERSION: [usize; 3] = [0, 2, 0];
+const VERSION: [usize; 3] = [0, 3, 0];
 
 /// The version as one text.
 pub fn version() -> String {

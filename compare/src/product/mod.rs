@@ -7,9 +7,9 @@ mod numbers;
 
 use crate::layout::*;
 use crate::receiver::{
-    ArrivalAnswer, Cursor, Draft, Entry, Found, FrameAnswer, Group, PriceAnswer, ReadAnswer,
-    Receiver, Record, RequestAnswer, Says, SetUpAnswer, StepAnswer, Tracker, Verdict, WriteAnswer,
-    NUMBERS, TEXTS,
+    ArrivalAnswer, Cursor, Draft, Entry, Found, FrameAnswer, Given, Group, PriceAnswer, ReadAnswer,
+    Receiver, Record, RequestAnswer, Says, SetUpAnswer, Stands, StepAnswer, Stream, StreamAnswer,
+    Tracker, Verdict, WriteAnswer, NUMBERS, TEXTS,
 };
 use header::*;
 use numbers::Numbers;
@@ -227,6 +227,30 @@ fn group(kind: u32, told: &GroupAnswer) -> Option<Group> {
     }
 }
 
+/// The answer of a stream's call. Without a frame there is nothing of one.
+fn streamed(told: header::StreamAnswer) -> StreamAnswer {
+    let frame = |stands| Given::Frame {
+        stands,
+        kind: told.kind,
+        length: told.len,
+        size: told.total,
+    };
+    let bare = (told.stands, told.kind, told.len, told.total) == (0, 0, 0, 0);
+    let given = match (told.answer, told.stands) {
+        (0, IN_CUT) => frame(Stands::InCut),
+        (0, IN_BUFFER) => frame(Stands::InBuffer),
+        (0, _) => Given::Refused(STRAY),
+        (MORE, _) if bare => Given::More,
+        (END, _) if bare => Given::End,
+        (answer, _) => Given::Refused(refusal(answer, bare)),
+    };
+    StreamAnswer {
+        given,
+        took: told.took,
+        next: told.next,
+    }
+}
+
 /// A call over the arrays of a tracker, lent as pointers of one kind.
 macro_rules! lend {
     ($call:ident, $tracker:ident, $lends:ident, $($taken:expr),*) => {
@@ -260,6 +284,20 @@ impl Receiver for Product {
                 FrameAnswer::Refused(refusal(answer, bare))
             }
         }
+    }
+
+    fn fresh(&self) -> Stream {
+        unsafe { orizhgum_stream_new() }
+    }
+
+    fn push(&self, stream: Stream, buffer: &mut [u8], cut: &[u8]) -> StreamAnswer {
+        let (lent_buffer, length) = (lent_out(buffer), buffer.len());
+        streamed(unsafe { orizhgum_stream_push(stream, lent_buffer, length, lent(cut), cut.len()) })
+    }
+
+    fn end(&self, stream: Stream, buffer: &mut [u8]) -> StreamAnswer {
+        let (lent_buffer, length) = (lent_out(buffer), buffer.len());
+        streamed(unsafe { orizhgum_stream_end(stream, lent_buffer, length) })
     }
 
     fn read(&self, kind: u32, body: &[u8]) -> ReadAnswer {
@@ -464,5 +502,56 @@ mod tests {
             found(NO_SUCH_ENTRY, &PRICE, answer, 0),
             Found::Refused(STRAY)
         );
+    }
+
+    const MORE_ALONE: header::StreamAnswer = header::StreamAnswer {
+        answer: MORE,
+        stands: 0,
+        kind: 0,
+        len: 0,
+        total: 0,
+        took: 5,
+        next: Stream { held: 5, mark: 0 },
+    };
+
+    #[test]
+    fn a_frame_beside_another_answer_is_stray() {
+        assert_eq!(streamed(MORE_ALONE).given, Given::More);
+        let strays = [
+            header::StreamAnswer {
+                stands: IN_CUT,
+                ..MORE_ALONE
+            },
+            header::StreamAnswer {
+                kind: 3,
+                ..MORE_ALONE
+            },
+            header::StreamAnswer {
+                len: 1,
+                ..MORE_ALONE
+            },
+            header::StreamAnswer {
+                total: 12,
+                ..MORE_ALONE
+            },
+        ];
+        for stray in strays {
+            for answer in [MORE, END, 1, 2, 3, 10] {
+                let told = streamed(header::StreamAnswer { answer, ..stray });
+                assert_eq!(told.given, Given::Refused(STRAY), "{stray:?}");
+            }
+        }
+    }
+
+    #[test]
+    fn a_frame_that_stands_nowhere_is_stray() {
+        for stands in [0, 3, u32::MAX] {
+            let told = streamed(header::StreamAnswer {
+                answer: 0,
+                stands,
+                ..MORE_ALONE
+            });
+            assert_eq!(told.given, Given::Refused(STRAY), "{stands}");
+        }
     }
 }

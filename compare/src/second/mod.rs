@@ -9,12 +9,13 @@ pub mod frame;
 pub mod layout;
 pub mod record;
 pub mod rules;
+pub mod stream;
 pub mod tracker;
 pub mod writer;
 
 use crate::receiver::{
     ArrivalAnswer, Cursor, Draft, Entry, Found, FrameAnswer, Group, PriceAnswer, ReadAnswer,
-    Receiver, RequestAnswer, SetUpAnswer, StepAnswer, Tracker, WriteAnswer,
+    Receiver, RequestAnswer, SetUpAnswer, StepAnswer, Stream, StreamAnswer, Tracker, WriteAnswer,
 };
 use rules::Rules;
 
@@ -26,6 +27,18 @@ pub struct Second {
 impl Receiver for Second {
     fn frame(&self, bytes: &[u8]) -> FrameAnswer {
         frame::frame(&self.rules, bytes)
+    }
+
+    fn fresh(&self) -> Stream {
+        stream::FRESH
+    }
+
+    fn push(&self, stream: Stream, buffer: &mut [u8], cut: &[u8]) -> StreamAnswer {
+        stream::push(&self.rules, stream, buffer, cut)
+    }
+
+    fn end(&self, stream: Stream, buffer: &mut [u8]) -> StreamAnswer {
+        stream::end(&self.rules, stream, buffer)
     }
 
     fn read(&self, kind: u32, body: &[u8]) -> ReadAnswer {

@@ -27,11 +27,13 @@ fn product_and_second_program_agree() {
         Err(difference) => panic!("{difference}"),
     };
     // Not by `println`, of which a passing test shows nothing.
-    let told = format!("\n{inputs} inputs of seed {SEED}\n\n{table}");
+    let calls = table.stream_calls();
+    let told = format!("\n{inputs} inputs of seed {SEED}, {calls} calls of the stream\n\n{table}");
     std::io::stdout()
         .write_all(told.as_bytes())
         .expect("an output");
     assert_eq!(table.faults(LEAST), Vec::<String>::new());
+    assert!(calls >= inputs, "{calls} calls of the stream");
 }
 
 #[test]

@@ -4,8 +4,9 @@
 use super::second;
 use compare::compare::compare;
 use compare::receiver::{
-    ArrivalAnswer, Cursor, Draft, Entry, Found, FrameAnswer, Group, PriceAnswer, ReadAnswer,
-    Receiver, Record, RequestAnswer, SetUpAnswer, StepAnswer, Tracker, Verdict, WriteAnswer,
+    ArrivalAnswer, Cursor, Draft, Entry, Found, FrameAnswer, Given, Group, PriceAnswer, ReadAnswer,
+    Receiver, Record, RequestAnswer, SetUpAnswer, Stands, StepAnswer, Stream, StreamAnswer,
+    Tracker, Verdict, WriteAnswer,
 };
 use compare::second::rules::Rules;
 use compare::second::Second;
@@ -104,9 +105,29 @@ enum How {
     EndsOnOneOnly,
     EightBeforeSeven,
     EightBeforeTen,
+    TakesTheWholeCut,
+    ForgetsWhatIsHeld,
+    SaysInTheCut,
+    GoesOnAfterTwo,
+    TwoTakesTheWholeCut,
+    ThreeTakesTheHeader,
+    OneWhileItGoesOn,
+    NoBytesAreTheEnd,
+    CopiesAFrameOfTheCut,
+    CopiesTheWholeCut,
+    ClearsBehindTheHeld,
+    EndsWithBytesLeftOver,
+    EndForgetsWhatIsHeld,
+    EndClearsTheBuffer,
+    StoppedTakesBytes,
+    AcceptsAnyState,
+    AcceptsAShortBuffer,
+    AcceptsAFrameHeld,
+    RepeatsBeforeTen,
+    RefusalTenClearsTheState,
 }
 
-const ALL: [How; 19] = [
+const ALL: [How; 39] = [
     How::RefusesEveryFrame,
     How::AnswersHeartbeatAlways,
     How::MadeUpFrameLength,
@@ -126,7 +147,30 @@ const ALL: [How; 19] = [
     How::EndsOnOneOnly,
     How::EightBeforeSeven,
     How::EightBeforeTen,
+    How::TakesTheWholeCut,
+    How::ForgetsWhatIsHeld,
+    How::SaysInTheCut,
+    How::GoesOnAfterTwo,
+    How::TwoTakesTheWholeCut,
+    How::ThreeTakesTheHeader,
+    How::OneWhileItGoesOn,
+    How::NoBytesAreTheEnd,
+    How::CopiesAFrameOfTheCut,
+    How::CopiesTheWholeCut,
+    How::ClearsBehindTheHeld,
+    How::EndsWithBytesLeftOver,
+    How::EndForgetsWhatIsHeld,
+    How::EndClearsTheBuffer,
+    How::StoppedTakesBytes,
+    How::AcceptsAnyState,
+    How::AcceptsAShortBuffer,
+    How::AcceptsAFrameHeld,
+    How::RepeatsBeforeTen,
+    How::RefusalTenClearsTheState,
 ];
+
+/// A stream that has stopped at 2.
+const STOPPED: Stream = Stream { held: 0, mark: 2 };
 
 /// The second program, broken in one way.
 struct Broken {
@@ -150,6 +194,78 @@ impl Broken {
             _ => answer,
         }
     }
+
+    /// A frame of a stream, broken.
+    fn break_frame(
+        &self,
+        stream: Stream,
+        buffer: &mut [u8],
+        cut: &[u8],
+        answer: &mut StreamAnswer,
+    ) {
+        let Given::Frame { stands, .. } = &mut answer.given else {
+            return;
+        };
+        match self.how {
+            How::TakesTheWholeCut => answer.took = cut.len(),
+            How::SaysInTheCut => *stands = Stands::InCut,
+            How::CopiesAFrameOfTheCut if *stands == Stands::InCut => {
+                buffer[..answer.took].copy_from_slice(&cut[..answer.took])
+            }
+            How::CopiesTheWholeCut if *stands == Stands::InBuffer => {
+                let behind = buffer[stream.held..].iter_mut().zip(cut);
+                behind.for_each(|(place, byte)| *place = *byte);
+            }
+            _ => {}
+        }
+    }
+
+    /// A call that lacks bytes, broken.
+    fn break_more(&self, buffer: &mut [u8], cut: &[u8], answer: &mut StreamAnswer) {
+        match self.how {
+            How::OneWhileItGoesOn => answer.given = Given::Refused(1),
+            How::NoBytesAreTheEnd if cut.is_empty() => answer.given = Given::End,
+            How::ClearsBehindTheHeld => buffer[answer.next.held..].fill(0),
+            _ => {}
+        }
+    }
+
+    /// A refusal of a stream, broken.
+    fn break_refusal(
+        &self,
+        stream: Stream,
+        buffer: &mut [u8],
+        cut: &[u8],
+        answer: &mut StreamAnswer,
+    ) {
+        let Given::Refused(number) = answer.given else {
+            return;
+        };
+        match (self.how, number) {
+            (How::TwoTakesTheWholeCut, 2) if stream.mark == 0 => answer.took = cut.len(),
+            (How::ThreeTakesTheHeader, 3) if stream.mark == 0 => {
+                answer.took = 8usize.saturating_sub(stream.held)
+            }
+            (How::StoppedTakesBytes, 1..=3) if stream.mark != 0 => answer.took = cut.len(),
+            (How::AcceptsAnyState, 10) => answer.given = Given::More,
+            (How::AcceptsAShortBuffer, 10) => {
+                let mut longer = [&*buffer, &[0]].concat();
+                *answer = self.second.push(stream, &mut longer, cut);
+                buffer.copy_from_slice(&longer[..buffer.len()]);
+            }
+            (How::AcceptsAFrameHeld, 10) => {
+                let held = buffer.get(..stream.held).unwrap_or(&[]);
+                if let FrameAnswer::Frame { .. } = self.second.frame(held) {
+                    answer.given = Given::More;
+                }
+            }
+            (How::RepeatsBeforeTen, 10) if matches!(stream.mark, 2 | 3) => {
+                answer.given = Given::Refused(stream.mark)
+            }
+            (How::RefusalTenClearsTheState, 10) => answer.next = self.fresh(),
+            _ => {}
+        }
+    }
 }
 
 impl Receiver for Broken {
@@ -166,6 +282,42 @@ impl Receiver for Broken {
             }
             (_, answer) => answer,
         }
+    }
+
+    fn fresh(&self) -> Stream {
+        self.second.fresh()
+    }
+
+    fn push(&self, stream: Stream, buffer: &mut [u8], cut: &[u8]) -> StreamAnswer {
+        let handed = match self.how {
+            How::ForgetsWhatIsHeld if stream.mark == 0 => self.fresh(),
+            How::GoesOnAfterTwo if stream == STOPPED => self.fresh(),
+            _ => stream,
+        };
+        let mut answer = self.second.push(handed, buffer, cut);
+        match answer.given {
+            Given::Frame { .. } => self.break_frame(stream, buffer, cut, &mut answer),
+            Given::More => self.break_more(buffer, cut, &mut answer),
+            Given::Refused(_) => self.break_refusal(stream, buffer, cut, &mut answer),
+            Given::End if self.is(How::StoppedTakesBytes) => answer.took = cut.len(),
+            Given::End => {}
+        }
+        answer
+    }
+
+    fn end(&self, stream: Stream, buffer: &mut [u8]) -> StreamAnswer {
+        let mut answer = self.second.end(stream, buffer);
+        let left_over = answer.given == Given::Refused(1);
+        match self.how {
+            How::EndsWithBytesLeftOver if left_over => answer.given = Given::End,
+            How::EndForgetsWhatIsHeld if left_over => answer.next.held = 0,
+            How::EndClearsTheBuffer if left_over => buffer[..stream.held].fill(0),
+            _ if answer.given == Given::Refused(10) => {
+                self.break_refusal(stream, buffer, &[], &mut answer)
+            }
+            _ => {}
+        }
+        answer
     }
 
     fn read(&self, kind: u32, body: &[u8]) -> ReadAnswer {
@@ -294,6 +446,32 @@ fn broken_receivers_are_told() {
         });
         let told = told.unwrap_or_else(|| panic!("{how:?}: no difference"));
         println!("{how:?}: {}", told.lines().next().unwrap_or(""));
+    }
+}
+
+/// Broken in the same way, two receivers do not differ: the whole stream,
+/// read at once, tells what they get wrong.
+#[test]
+fn the_whole_stream_tells_what_both_get_wrong() {
+    for how in [
+        How::TakesTheWholeCut,
+        How::ForgetsWhatIsHeld,
+        How::SaysInTheCut,
+        How::GoesOnAfterTwo,
+        How::OneWhileItGoesOn,
+        How::NoBytesAreTheEnd,
+        How::EndsWithBytesLeftOver,
+        How::EndForgetsWhatIsHeld,
+    ] {
+        let both = Broken {
+            second: second(),
+            how,
+        };
+        let answer = compare(&both, &both, &both.second.rules, 10_000, SEED);
+        let told = answer.err().map(|difference| difference.to_string());
+        let told = told.unwrap_or_else(|| panic!("{how:?}: no difference"));
+        let call = "\ncall:   the frames of the cuts, and of the whole stream\n";
+        assert!(told.contains(call), "{how:?}: {told}");
     }
 }
 

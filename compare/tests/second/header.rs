@@ -100,6 +100,19 @@ fn other_declarations_are_refused() {
     let all = declared();
     for (place, (old, new)) in [
         ("ORIZHGUM_LATE == 103", "ORIZHGUM_LATE == 104"),
+        ("ORIZHGUM_IN_BUFFER == 2", "ORIZHGUM_IN_BUFFER == 1"),
+        (
+            "struct orizhgum_stream orizhgum_stream_new(void);",
+            "struct orizhgum_stream orizhgum_stream_new(size_t);",
+        ),
+        (
+            "orizhgum_stream_end(struct orizhgum_stream, const uint8_t *, size_t);",
+            "orizhgum_stream_end(struct orizhgum_stream, uint8_t *, size_t);",
+        ),
+        (
+            "offsetof(struct orizhgum_stream_answer, took) == 32",
+            "offsetof(struct orizhgum_stream_answer, took) == 24",
+        ),
         (
             "orizhgum_frame(const uint8_t *, size_t);",
             "orizhgum_frame(const uint8_t *, uint32_t);",

@@ -9,7 +9,7 @@ use std::fs;
 use std::path::{Path, PathBuf};
 
 /// The samples' folder: `SAMPLES`, or beside this package.
-fn folder() -> PathBuf {
+pub fn folder() -> PathBuf {
     match std::env::var_os("SAMPLES") {
         Some(folder) => PathBuf::from(folder),
         None => Path::new(env!("CARGO_MANIFEST_DIR")).join("../samples"),
@@ -17,7 +17,7 @@ fn folder() -> PathBuf {
 }
 
 /// The captures of a part of the samples.
-fn captures(part: &str) -> Vec<PathBuf> {
+pub fn captures(part: &str) -> Vec<PathBuf> {
     let files = fs::read_dir(folder().join(part)).expect("the samples");
     let paths = files.map(|file| file.expect("a file").path());
     paths
@@ -34,7 +34,7 @@ fn same_text(path: &Path, told: &str, expected: &str) {
 }
 
 /// The second program and the product.
-fn both() -> [Box<dyn Receiver>; 2] {
+pub fn both() -> [Box<dyn Receiver>; 2] {
     [Box::new(second()), Box::new(Product)]
 }
 

@@ -1,6 +1,9 @@
 -- The code of each call of the C interface: the checker's theorems, by name.
 -- Assumes nothing.
 use Rattle.orizhgum.proofs.orizhgum_frame as frame
+use Rattle.orizhgum.proofs.streamed.orizhgum_stream_new as stream-new
+use Rattle.orizhgum.proofs.streamed.orizhgum_stream_push as stream-push
+use Rattle.orizhgum.proofs.streamed.orizhgum_stream_end as stream-end
 use Rattle.orizhgum.proofs.records.orizhgum_judge as judge
 use Rattle.orizhgum.proofs.records.orizhgum_order as order
 use Rattle.orizhgum.proofs.records.orizhgum_trade as trade
@@ -38,6 +41,9 @@ pub checked-from-c : CheckedFromC
 checked-from-c =
     record {
       frame = record { meets = frame.Met.met; free = λ κs a. tt; known = frame.Reads.known };
+      stream-new = record { meets = stream-new.Met.met; free = λ κs a. tt; known = stream-new.Reads.known };
+      stream-push = record { meets = stream-push.Met.met; free = λ κs a. tt; known = stream-push.Reads.known };
+      stream-end = record { meets = stream-end.Met.met; free = λ κs a. tt; known = stream-end.Reads.known };
       judge = record { meets = judge.Met.met; free = λ κs a. tt; known = judge.Reads.known };
       order = record { meets = order.Met.met; free = λ κs a. tt; known = order.Reads.known };
       trade = record { meets = trade.Met.met; free = λ κs a. tt; known = trade.Reads.known };

@@ -42,10 +42,12 @@ use Rattle.tracker.specs.Request as request
 use Rattle.tracker.specs.Request.{requestLength, roomForRequest, answerOf}
 use Rattle.tracker.proofs.Fitting.{request-length}
 use Rattle.demands.specs.Play.{channelOf}
-use Rattle.demands.proofs.Calls.{frame-read-as, read-frame-as, read-as, judge-as, group-of-as, entry-of-as, quantity-of-as, step-as, write-as, set-up-as, arrives-as, request-as}
+use Rattle.streams.specs.Stream.{Told}
+use Rattle.demands.proofs.Streams.{push-judged, end-judged}
+use Rattle.demands.proofs.Calls.{frame-read-as, stream-push-as, stream-end-as, read-frame-as, read-as, judge-as, group-of-as, entry-of-as, quantity-of-as, step-as, write-as, set-up-as, arrives-as, request-as}
 use Rattle.demands.specs.Rules.{_if_, Judged, success, later, OrNone, Kept}
 use Rattle.demands.specs.Conditions.{L, behindOf, fieldsEnd, groupsIn, entriesIn, quantitiesIn, leftIn, groupsCounted, entryCount, shownCount, entriesLeft, EntryLacks, EntryStrays, Falls, Keeps, NotIn, Low}
-use Rattle.demands.specs.Demand1.{frameRules, bodyRules, readerRules, stepRules, writerRules, setUpRules, arrivalRules, requestRules}
+use Rattle.demands.specs.Demand1.{pushRules, endRules, frameRules, bodyRules, readerRules, stepRules, writerRules, setUpRules, arrivalRules, requestRules}
 use Rattle.demands.specs.Receiver.{Demand1}
 use Rattle.demands.proofs.Checked.{checked}
 use Rattle.demands.proofs.Rules.{above, answered, tested, Alike, both-accepted, both-refused, alike, in-turn, by-reading, by-body, by-judging}
@@ -480,6 +482,8 @@ demand1 =
     record {
       checked = checked;
       frame-read = λ s r c. rw (frame-read-as c) (by-frame s);
+      push = λ st buffer c left r h. every (λ (a : Told). Judged (pushRules st buffer c) (a .said)) (stream-push-as h .0) (push-judged st buffer c);
+      end = λ st buffer r h. every (λ (a : Told). Judged (endRules st buffer) (a .said)) (stream-end-as h) (end-judged st buffer);
       read-frame = λ s r c. every (λ (a : WithTexts record-of.Reading). Judged (readerRules s) (a .answer)) (read-frame-as c) (by-bytes s);
       read = λ type b r c. every (λ (a : WithTexts record-of.Reading). Judged (bodyRules type b) (a .answer)) (read-as c) (by-type type b);
       judge = λ type b r c. rw (judge-as c) (by-body (named type) b);

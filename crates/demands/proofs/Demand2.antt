@@ -37,7 +37,7 @@ use Rattle.writer.proofs.Judging.{known-of}
 use Rattle.bodies.proofs.Round.{length-encode}
 use Rattle.demands.specs.Demand2.{ByTheRules, StepsTo, last-step, then-on, SameEntries, Reader, Accepted, with-value, Unlisted, shownSum, bytesOf, Column, Tail, Leaves, frame-first, as-it-stood, Writer, Output, Held, Reads, ReadsBack, NoTail, SameBytes}
 use Rattle.demands.specs.Rules.{_if_, Judged, success, here, later}
-use Rattle.demands.proofs.Calls.{frame-read-as, frame-body-as, frame-walk-as, groups-of-as, read-frame-as, read-as, judge-as, group-of-as, entry-of-as, quantity-of-as, start-as, step-as, write-as}
+use Rattle.demands.proofs.Calls.{frame-read-as, frame-body-as, frame-walk-as, frame-wanting-as, frame-reach-as, stream-new-as, stream-push-as, stream-end-as, groups-of-as, read-frame-as, read-as, judge-as, group-of-as, entry-of-as, quantity-of-as, start-as, step-as, write-as}
 use Rattle.demands.proofs.Tail.{judged-tail, same-entry, read-tail, groups-tail, group-as-tail, entry-in-tail, quantity-in-tail, start-tail}
 use Rattle.demands.proofs.Rules.{not-both, accepted-where}
 use Rattle.demands.proofs.Demand1.{demand1}
@@ -51,6 +51,11 @@ by-the-rules =
       frame-read = λ s a h. frame-read-as h;
       frame-body = λ s b h. frame-body-as h;
       frame-walk = λ s w h. frame-walk-as h;
+      frame-wanting = λ s n h. frame-wanting-as h;
+      frame-reach = λ s n h. frame-reach-as h;
+      stream-new = λ st h. stream-new-as h;
+      stream-push = λ st buffer c left r h. stream-push-as h;
+      stream-end = λ st buffer r h. stream-end-as h;
       read-frame = λ s x h. read-frame-as h;
       read = λ type b x h. read-as h;
       judge = λ type b v h. judge-as h;

@@ -34,6 +34,11 @@ use Rattle.tracker.specs.Request as asking
 use Rattle.tracker.proofs.Unique as tracker
 use Rattle.wire.specs.Number.{plain, unknownNumber, answerNumber}
 use Rattle.orizhgum.specs.Framed.{frameAnswer}
+use Rattle.orizhgum.specs.Streamed.{saidAnswer, streamAnswer}
+use Rattle.orizhgum.specs.declared.streamed.StreamAnswer.{StreamAnswer}
+use Rattle.streams.specs.Stream.{Said, frame, more, end, Told, pushed, ended}
+use Rattle.streams.specs.declared.Stream.{Stream}
+use Rattle.demands.proofs.Streams.{push-judged, end-judged}
 use Rattle.orizhgum.specs.Records.{judgedNumber, RecordAnswer, answerAs, recordAnswer}
 use Rattle.orizhgum.specs.Groups.{groupWith, groupAnswer}
 use Rattle.prices.specs.Entries.{Price, here, none, priceOf, priceNumber, priceLeft, pricing, pricedLeft, entryAnswer, stepAnswer}
@@ -60,9 +65,9 @@ use Rattle.demands.specs.Play as play
 use Rattle.demands.specs.Play.{Play, Fresh}
 use Rattle.demands.specs.Interface as c
 use Rattle.demands.specs.Interface.{NoRefusal, NumberBy, Refusals, judgedBy, shownOf, SameAnswers, GivesBack, StructsReadBack, StructsSameBytes, Numbered, PlayFromC, Playing, PlaysAsPlayed, StartsFresh}
-use Rattle.demands.proofs.Calls.{frame-read-as, judge-as, read-as, group-of-as, entry-of-as, quantity-of-as, start-as, step-as, write-as, set-up-as, arrives-as, request-as}
+use Rattle.demands.proofs.Calls.{frame-read-as, stream-new-as, stream-push-as, stream-end-as, judge-as, read-as, group-of-as, entry-of-as, quantity-of-as, start-as, step-as, write-as, set-up-as, arrives-as, request-as}
 use Rattle.demands.proofs.Calls as calls
-use Rattle.demands.proofs.CalledFromC.{frame-from, judge-from, record-from, group-from, entry-from, entry-price-from, quantity-from, cursor-from, next-from, step-price-from, set-up-from, answered, arrives-from, request-from, write-from}
+use Rattle.demands.proofs.CalledFromC.{frame-from, stream-new-from, stream-push-from, stream-end-from, judge-from, record-from, group-from, entry-from, entry-price-from, quantity-from, cursor-from, next-from, step-price-from, set-up-from, answered, arrives-from, request-from, write-from}
 use Rattle.demands.proofs.Rules.{by-body}
 use Rattle.demands.proofs.Demand1 as judging
 use Rattle.demands.proofs.Demand1.{by-frame, by-type, group-asked, entry-asked, quantity-asked, stepped, written, started, asked, nothing-written}
@@ -97,6 +102,14 @@ positive p (rules.later w j) e = positive (p .1) j e
 judged-by : (l : Listed) (b : List ℕ) → judgedNumber l b ≡ judgedBy l (judgeListed l b)
 judged-by (listed m) b = refl
 judged-by unlisted b = refl
+
+stream-no : (took : ℕ) (next : Stream) (x : Said) → NoRefusal (saidAnswer (accepted x) took next .answer)
+stream-no took next (frame w f) = inl refl
+stream-no took next (more vs) = inr (omega arith)
+stream-no took next end = inr (omega arith)
+
+stream-number : {rs : List Rule} (t : Told) → Judged rs (t .said) → NumberBy rs (streamAnswer t .answer)
+stream-number t j = number-by (λ a. saidAnswer a (t .took) (t .next) .answer) (stream-no (t .took) (t .next)) (λ n vs. refl) j
 
 group-no : (ts : List ℕ) (x : Asked (List ℤ)) → NoRefusal (groupWith (accepted x) ts .answer)
 group-no ts (found []) = inl refl
@@ -208,6 +221,8 @@ unfolding entryAnswer quantityAnswer pricing stepAnswer groupAnswer requestAnswe
 refusals =
     record {
       frame = λ s r h. told-as (ap (λ (x : FrameAnswer). x .answer) (frame-from h)) (number-by (λ a. frameAnswer a .answer) (λ x. inl refl) (λ n vs. refl) (by-frame s));
+      stream-push = λ st buffer c r left h. told-as (ap (λ (x : StreamAnswer). x .answer) (stream-push-from h .0)) (stream-number (pushed headerWidth bodyLimit st buffer c) (push-judged st buffer c));
+      stream-end = λ st buffer r h. told-as (ap (λ (x : StreamAnswer). x .answer) (stream-end-from h)) (stream-number (ended headerWidth bodyLimit st buffer) (end-judged st buffer));
       judge = λ type b n h. told-as (judge-from h) (judge-number (named type) b);
       record-of = λ m b n x ts h. told-as (ap (λ (y : RecordAnswer). y .answer) (record-from h) ∙ ap (λ (y : WithTexts Reading). answerNumber (y .answer)) (reads-as b m refl)) (number-by answerNumber (λ y. inl refl) (λ k vs. refl) (by-type (typeNumber m) b));
       group = λ type b i r h. told-as (ap (λ (x : Grouped). x .answer) (group-from h)) (number-by (λ a. groupWith a (groupOf type b i .texts) .answer) (group-no (groupOf type b i .texts)) (λ n vs. refl) (group-asked type b i .judged));
@@ -256,6 +271,9 @@ unfolding recordAnswer
 same-answers =
     record {
       frame = λ s r a h p. frame-from h ∙ ap frameAnswer (sym (frame-read-as p));
+      stream-new = λ r a h p. stream-new-from h ∙ sym (stream-new-as p);
+      stream-push = λ st buffer c r left a after h p. (stream-push-from h .0 ∙ ap streamAnswer (sym (stream-push-as p .0)), stream-push-from h .1 ∙ sym (stream-push-as p .1));
+      stream-end = λ st buffer r a h p. stream-end-from h ∙ ap streamAnswer (sym (stream-end-as p));
       judge = λ type b n a h p. judge-from h ∙ judged-by (named type) b ∙ ap (judgedBy (named type)) (sym (judge-as p));
       record-of = λ m b n x ts a h p. record-from h ∙ ap (shownOf m) (reads-as b m refl) ∙ ap (shownOf m) (sym (read-as p));
       group = λ type b i r a h p. group-from h ∙ ap groupAnswer (sym (group-of-as p));

@@ -17,3 +17,4 @@ pub mod CalledFromC
 pub mod CheckedFromC
 pub mod Interface
 pub mod PlayedFromC
+pub mod Streams

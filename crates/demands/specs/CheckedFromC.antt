@@ -2,6 +2,9 @@
 -- Assumes nothing.
 use Rattle.demands.specs.Checked.{Proved}
 use Rattle.orizhgum.proofs.orizhgum_frame as frame
+use Rattle.orizhgum.proofs.streamed.orizhgum_stream_new as stream-new
+use Rattle.orizhgum.proofs.streamed.orizhgum_stream_push as stream-push
+use Rattle.orizhgum.proofs.streamed.orizhgum_stream_end as stream-end
 use Rattle.orizhgum.proofs.records.orizhgum_judge as judge
 use Rattle.orizhgum.proofs.records.orizhgum_order as order
 use Rattle.orizhgum.proofs.records.orizhgum_trade as trade
@@ -37,6 +40,9 @@ use Rattle.orizhgum.proofs.written.orizhgum_write_security_status as write-secu
 -- D11: the code of each call
 pub record CheckedFromC : Type 2 where
   pub frame : Proved frame.Statement.statement 1 frame.Kinds.ps frame.Kinds.r frame.Reads.Ghost frame.Reads.requires frame.Reads.ensures frame.Reads.Asked frame.Reads.Learnt
+  pub stream-new : Proved stream-new.Statement.statement 0 stream-new.Kinds.ps stream-new.Kinds.r stream-new.Reads.Ghost stream-new.Reads.requires stream-new.Reads.ensures stream-new.Reads.Asked stream-new.Reads.Learnt
+  pub stream-push : Proved stream-push.Statement.statement 2 stream-push.Kinds.ps stream-push.Kinds.r stream-push.Reads.Ghost stream-push.Reads.requires stream-push.Reads.ensures stream-push.Reads.Asked stream-push.Reads.Learnt
+  pub stream-end : Proved stream-end.Statement.statement 1 stream-end.Kinds.ps stream-end.Kinds.r stream-end.Reads.Ghost stream-end.Reads.requires stream-end.Reads.ensures stream-end.Reads.Asked stream-end.Reads.Learnt
   pub judge : Proved judge.Statement.statement 1 judge.Kinds.ps judge.Kinds.r judge.Reads.Ghost judge.Reads.requires judge.Reads.ensures judge.Reads.Asked judge.Reads.Learnt
   pub order : Proved order.Statement.statement 1 order.Kinds.ps order.Kinds.r order.Reads.Ghost order.Reads.requires order.Reads.ensures order.Reads.Asked order.Reads.Learnt
   pub trade : Proved trade.Statement.statement 1 trade.Kinds.ps trade.Kinds.r trade.Reads.Ghost trade.Reads.requires trade.Reads.ensures trade.Reads.Asked trade.Reads.Learnt

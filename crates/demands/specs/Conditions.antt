@@ -9,6 +9,9 @@ use lib.IntN.{ℤ, pos}
 use lib.ListN.{length, take, getD}
 use lib.Signed.{_<ℤ_}
 use Rattle.wire.specs.Bytes.{beAt, checksumOf}
+use Rattle.frame.specs.Framing.{bodyLimit}
+use Rattle.streams.specs.Stream.{going, over}
+use Rattle.streams.specs.declared.Stream.{Stream}
 use Rattle.layout.specs.Kind.{Kind, quantity, form, width, ranged}
 use Rattle.layout.specs.Layout.{Message, fields, Group, Listed, listed, unlisted, named, Behind, nothing, groups, entries, entryGroup, behind}
 use Rattle.layout.specs.Group.{shown, shownOffset, nextOffset, groupOffset, group, groupsStart, count, countAt, needs}
@@ -29,6 +32,22 @@ L s = beAt s 4 4
 -- R3: the four bytes behind the body are not the sum of all before them
 abbrev pub SumDiffers : List ℕ → Type 0
 SumDiffers s = beAt s (8 + L s) 4 ≡ checksumOf (take (8 + L s) s) → ⊥
+
+-- R2, S4: a header that is there and states too much
+abbrev pub TooLongIn : List ℕ → Type 0
+TooLongIn s = (8 ≤ length s) × (bodyLimit < L s)
+
+-- R3, S4: a frame that is there and has another sum
+abbrev pub WrongSumIn : List ℕ → Type 0
+WrongSumIn s = (12 + L s ≤ length s) × SumDiffers s
+
+-- S1: a stream that goes on
+abbrev pub GoesOn : Stream → Type 0
+GoesOn st = st .mark ≡ going
+
+-- S6: a stream that was told to have ended, with bytes left over
+abbrev pub LeftOver : Stream → Type 0
+LeftOver st = (st .mark ≡ over) × (0 < st .held)
 
 -- R4: a body with fewer bytes than its layout needs
 abbrev pub BodyShort : Listed → List ℕ → Type 0

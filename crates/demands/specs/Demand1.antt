@@ -21,13 +21,34 @@ use Rattle.bodies.specs.Body.{bodyLength, stated}
 use Rattle.gaps.specs.Channel.{Event}
 use Rattle.seats.specs.Places.{channelLimit}
 use Rattle.tracker.specs.declared.Tracker.{Tracker}
+use Rattle.streams.specs.Stream.{unfinished}
+use Rattle.streams.specs.declared.Stream.{Stream}
+use Rattle.demands.specs.Streams.{LedTo}
 use Rattle.demands.specs.Calls.{FrameRead, FrameBody, Judge, GroupsOf}
 use Rattle.demands.specs.Rules.{Rule, _if_}
-use Rattle.demands.specs.Conditions.{L, SumDiffers, BodyShort, Strays, behindOf, EntryLacks, EntryStrays, Exactly, NumberOut, SomeGroupOut, Falls, Keeps, NotIn, Low, Overfills, RequestShort}
+use Rattle.demands.specs.Conditions.{L, SumDiffers, TooLongIn, WrongSumIn, GoesOn, LeftOver, BodyShort, Strays, behindOf, EntryLacks, EntryStrays, Exactly, NumberOut, SomeGroupOut, Falls, Keeps, NotIn, Low, Overfills, RequestShort}
 
 -- R1, R2, J1: the bytes of a frame
 abbrev pub frameRules : List ℕ → List Rule
 frameRules s = tooShort if (length s < 8) ∷ tooLong if (bodyLimit < L s) ∷ tooShort if (length s < 12 + L s) ∷ wrongSum if SumDiffers s ∷ []
+
+-- S4, S7, S8, J9: a cut of a stream
+abbrev pub pushRules : Stream → List ℕ → List ℕ → List Rule
+pushRules st buffer c =
+    malformed if (LedTo st buffer → ⊥)
+    ∷ tooShort if LeftOver st
+    ∷ tooLong if ((st .mark ≡ tooLong) ⊎ (GoesOn st × TooLongIn (unfinished st buffer ++ c)))
+    ∷ wrongSum if ((st .mark ≡ wrongSum) ⊎ (GoesOn st × WrongSumIn (unfinished st buffer ++ c)))
+    ∷ []
+
+-- S6, S7, S8, J9: its end
+abbrev pub endRules : Stream → List ℕ → List Rule
+endRules st buffer =
+    malformed if (LedTo st buffer → ⊥)
+    ∷ tooShort if (LeftOver st ⊎ (GoesOn st × (0 < st .held)))
+    ∷ tooLong if (st .mark ≡ tooLong)
+    ∷ wrongSum if (st .mark ≡ wrongSum)
+    ∷ []
 
 -- J2: a body of a type
 abbrev pub bodyRules : ℕ → List ℕ → List Rule

@@ -12,6 +12,12 @@ use Rattle.wire.specs.Bytes.{Bytes, part}
 use Rattle.wire.specs.Refusal.{notItsLayout}
 use Rattle.frame.specs.Framing as framed-as
 use Rattle.frame.specs.Walk as walked-as
+use Rattle.frame.specs.Wanting.{wanting, reach}
+use Rattle.streams.specs.Stream.{newStream}
+use Rattle.streams.specs.Cutting.{PushAs, EndAs}
+use Rattle.streams.specs.Paper.{meansPushed}
+use Rattle.streams.specs.declared.Stream.{Stream}
+use Rattle.streams.specs.declared.Pushed.{Pushed}
 use Rattle.frame.specs.declared.Framed.{Framed}
 use Rattle.frame.specs.declared.walking.Walked.{Walked}
 use Rattle.frame.specs.declared.Framed.the-variants.{Whole}
@@ -40,7 +46,7 @@ use Rattle.bodies.specs.Body.{Numbers, body, bodyLength}
 use Rattle.writer.specs.Write.{frameOf}
 use Rattle.writer.specs.Paper.{meansWritten}
 use Rattle.writer.specs.declared.Written.{Written}
-use Rattle.demands.specs.Calls.{FrameRead, FrameBody, FrameWalk, ReadFrame, Read, Judge, GroupOf, GroupsOf, EntryOf, QuantityOf, CursorStart, CursorStep, Write}
+use Rattle.demands.specs.Calls.{FrameRead, FrameBody, FrameWalk, FrameWanting, FrameReach, StreamNew, StreamPush, StreamEnd, ReadFrame, Read, Judge, GroupOf, GroupsOf, EntryOf, QuantityOf, CursorStart, CursorStep, Write}
 use Rattle.demands.specs.Rules.{Rule}
 use Rattle.demands.specs.Demand1.{readerRules, writerRules}
 
@@ -58,6 +64,14 @@ pub record ByTheRules : Type 0 where
   pub frame-walk :
       (s : List ℕ) (w : Walked) → FrameWalk s w →
       walked-as.meansWalked w ≡ walked-as.walkCount (walked-as.walk framed-as.headerWidth framed-as.bodyLimit s)
+  pub frame-wanting : (s : List ℕ) (n : ℕ) → FrameWanting s n → n ≡ wanting framed-as.headerWidth framed-as.bodyLimit s
+  pub frame-reach : (s : List ℕ) (n : ℕ) → FrameReach s n → n ≡ reach framed-as.headerWidth framed-as.bodyLimit s
+  pub stream-new : (st : Stream) → StreamNew st → st ≡ newStream
+  pub stream-push :
+      (st : Stream) (buffer c left : List ℕ) (r : Pushed) → StreamPush st buffer c r left →
+      PushAs framed-as.headerWidth framed-as.bodyLimit st buffer c (meansPushed r) left
+  pub stream-end :
+      (st : Stream) (buffer : List ℕ) (r : Pushed) → StreamEnd st buffer r → EndAs framed-as.headerWidth framed-as.bodyLimit st buffer (meansPushed r)
   pub read-frame : (s : List ℕ) (x : FrameReading) → ReadFrame s x → meansFrameReading x ≡ readFrame s
   pub read : (type : ℕ) (b : List ℕ) (x : code-reading.Reading) → Read type b x → record-paper.meansReading x ≡ readBody type b
   pub judge : (type : ℕ) (b : List ℕ) (v : Verdict) → Judge type b v → layout-paper.meansVerdict v ≡ judged-as.judge type b

@@ -10,6 +10,9 @@ use Rattle.wire.specs.Answer.{Answer}
 use Rattle.wire.specs.Bytes.{Bytes, part}
 use Rattle.frame.specs.Framing as frame
 use Rattle.frame.specs.declared.Framed.{Framed}
+use Rattle.streams.specs.Paper.{meansPushed}
+use Rattle.streams.specs.declared.Stream.{Stream}
+use Rattle.streams.specs.declared.Pushed.{Pushed}
 use Rattle.layout.specs.declared.group.Verdict.{Verdict}
 use Rattle.layout.specs.Paper as layout
 use Rattle.layout.specs.Layout.{Message, fields, typeNumber, Listed, listed, unlisted, named}
@@ -46,16 +49,18 @@ use Rattle.orizhgum.specs.Arrivals.{saidNumber, startAnswer}
 use Rattle.orizhgum.specs.Written.{writeAnswer}
 use Rattle.orizhgum.specs.Requested.{requestAnswer}
 use Rattle.orizhgum.specs.declared.FrameAnswer.{FrameAnswer}
+use Rattle.orizhgum.specs.Streamed.{streamAnswer}
+use Rattle.orizhgum.specs.declared.streamed.StreamAnswer.{StreamAnswer}
 use Rattle.orizhgum.specs.declared.groups.Grouped.{Grouped}
 use Rattle.prices.specs.declared.entry.EntryAnswer.{EntryAnswer}
 use Rattle.prices.specs.declared.entry.StepAnswer.{StepAnswer}
 use Rattle.orizhgum.specs.declared.entry.QuantityAnswer.{QuantityAnswer}
 use Rattle.orizhgum.specs.declared.arrivals.StartAnswer.{StartAnswer}
 use Rattle.orizhgum.specs.declared.written.WriteAnswer.{WriteAnswer}
-use Rattle.demands.specs.Calls.{FrameRead, Judge, Read, GroupOf, EntryOf, QuantityOf, CursorStart, CursorStep, SetsUp, Arrives, Request, Write}
-use Rattle.demands.specs.CalledFromC.{FrameFromC, JudgeFromC, RecordFromC, GroupFromC, EntryFromC, EntryPriceFromC, QuantityFromC, CursorFromC, NextFromC, StepPriceFromC, SetUpFromC, ArrivesFromC, RequestFromC, WriteFromC}
+use Rattle.demands.specs.Calls.{FrameRead, StreamNew, StreamPush, StreamEnd, Judge, Read, GroupOf, EntryOf, QuantityOf, CursorStart, CursorStep, SetsUp, Arrives, Request, Write}
+use Rattle.demands.specs.CalledFromC.{FrameFromC, StreamNewFromC, StreamPushFromC, StreamEndFromC, JudgeFromC, RecordFromC, GroupFromC, EntryFromC, EntryPriceFromC, QuantityFromC, CursorFromC, NextFromC, StepPriceFromC, SetUpFromC, ArrivesFromC, RequestFromC, WriteFromC}
 use Rattle.demands.specs.Rules.{Rule}
-use Rattle.demands.specs.Demand1.{frameRules, bodyRules, stepRules, writerRules, setUpRules, arrivalRules, requestRules}
+use Rattle.demands.specs.Demand1.{frameRules, pushRules, endRules, bodyRules, stepRules, writerRules, setUpRules, arrivalRules, requestRules}
 use Rattle.demands.specs.Demand2.{Held, NoTail}
 use Rattle.demands.specs.Play.{Callable, AllCallable, Turn, Play, Fresh}
 
@@ -85,6 +90,10 @@ pub record PlainBy {S : Type 0} (rules : List Rule) (n : ℕ) (stood left : S) :
 pub record Refusals : Type 1 where
   -- `orizhgum_frame`
   pub frame : (s : List ℕ) (r : FrameAnswer) → FrameFromC s r → NumberBy (frameRules s) (r .answer)
+  -- `orizhgum_stream_push`, `orizhgum_stream_end`
+  pub stream-push :
+      (st : Stream) (buffer c : List ℕ) (r : StreamAnswer) (left : List ℕ) → StreamPushFromC st buffer c r left → NumberBy (pushRules st buffer c) (r .answer)
+  pub stream-end : (st : Stream) (buffer : List ℕ) (r : StreamAnswer) → StreamEndFromC st buffer r → NumberBy (endRules st buffer) (r .answer)
   -- `orizhgum_judge`
   pub judge : (type : ℕ) (b : List ℕ) (n : ℕ) → JudgeFromC type b n → NumberBy (bodyRules type b) n
   -- `orizhgum_order` and the other eight record calls
@@ -132,10 +141,18 @@ judgedBy unlisted a = unknownNumber
 abbrev pub shownOf : Message → WithTexts record-of.Reading → RecordAnswer
 shownOf m t = record { answer = answerNumber (t .answer); numbers = recordIn m (t .answer); texts = t .texts }
 
--- C2, C3, C4, C5, C6, C7, C8, C9, C10: every call
+-- C2, C3, C4, C5, C6, C7, C8, C9, C10, C12: every call
 pub record SameAnswers : Type 0 where
   -- `orizhgum_frame`, `frame::read`
   pub frame : (s : List ℕ) (r : FrameAnswer) (a : Framed) → FrameFromC s r → FrameRead s a → r ≡ frameAnswer (frame.meansFramed a)
+  -- `orizhgum_stream_new`, `Stream::new`; `orizhgum_stream_push`, `Stream::push`; `orizhgum_stream_end`, `Stream::end`
+  pub stream-new : (r a : Stream) → StreamNewFromC r → StreamNew a → r ≡ a
+  pub stream-push :
+      (st : Stream) (buffer c : List ℕ) (r : StreamAnswer) (left : List ℕ) (a : Pushed) (after : List ℕ) → StreamPushFromC st buffer c r left →
+      StreamPush st buffer c a after → (r ≡ streamAnswer (meansPushed a)) × (left ≡ after)
+  pub stream-end :
+      (st : Stream) (buffer : List ℕ) (r : StreamAnswer) (a : Pushed) → StreamEndFromC st buffer r → StreamEnd st buffer a →
+      r ≡ streamAnswer (meansPushed a)
   -- `orizhgum_judge`, `record::judge`
   pub judge :
       (type : ℕ) (b : List ℕ) (n : ℕ) (a : Verdict) → JudgeFromC type b n → Judge type b a → n ≡ judgedBy (named type) (layout.meansVerdict a)

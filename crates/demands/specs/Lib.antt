@@ -12,3 +12,4 @@ pub mod Receiver
 pub mod CalledFromC
 pub mod CheckedFromC
 pub mod Interface
+pub mod Streams

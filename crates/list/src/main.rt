@@ -7,10 +7,8 @@ use frame::Framed;
 // The window that slides over the input holds the longest frame several times, so that reads are few.
 const WINDOW: usize = 4 * Frame::LIMIT;
 
-// Lines are gathered and written together. A line is shorter than the margin.
+// Lines are gathered and written together.
 const GATHERED: usize = 65536;
-
-const MARGIN: usize = 64;
 
 // Where the listing is: bytes of the window that are listed, offset and frames so far, bytes gathered, the number of the
 // refusal at that offset, 0 where there is none, and whether a write failed.
@@ -32,24 +30,6 @@ fn output_failed() {
     os::fail(b"list: standard output");
 }
 
-// A line of three numbers behind what is gathered.
-fn line(out: &mut [u8], at: usize, offset: u64, kind: u32, len: usize) -> usize {
-    let a = text::decimal(out, at, offset);
-    let b = text::word(out, a, b" ");
-    let c = text::decimal(out, b, kind as u64);
-    let d = text::word(out, c, b" ");
-    let e = text::decimal(out, d, len as u64);
-    text::word(out, e, b"\n")
-}
-
-// The last line: the offset, how the listing ends, and the frames or the refusal's number.
-fn last_line(out: &mut [u8], at: usize, offset: u64, how: &[u8], number: u64) -> usize {
-    let a = text::decimal(out, at, offset);
-    let b = text::word(out, a, how);
-    let c = text::decimal(out, b, number);
-    text::word(out, c, b"\n")
-}
-
 // Lists the frames of the window's bytes, from an offset on, up to a refusal or a failed write.
 fn list_window(bytes: &[u8], out: &mut [u8], start: Progress) -> Progress
     ensures { λ r. ⌜ r .from ≤ length (now (bytes .entry)) ⌝ }
@@ -61,8 +41,8 @@ fn list_window(bytes: &[u8], out: &mut [u8], start: Progress) -> Progress
     while from < bytes.len() {
         match frame::read(&bytes[from..]) {
             Framed::Whole(f) => {
-                gathered = line(out, gathered, offset, f.kind, f.len);
-                let held = window::flush(out, gathered, MARGIN);
+                gathered = text::frame_line(out, gathered, offset, f.kind, f.len);
+                let held = window::flush(out, gathered, text::LINE_ROOM);
                 gathered = held.count;
                 from += f.total;
                 offset = std::num::wrapping_add_u64(offset, f.total as u64);
@@ -111,23 +91,12 @@ fn put(out: &[u8], gathered: usize) {
 
 // The last line, and all that is gathered.
 fn finish(out: &mut [u8], progress: Progress) {
-    if progress.refused == 0 {
-        let held = last_line(
-            out,
-            progress.gathered,
-            progress.offset,
-            b" end ",
-            progress.frames,
-        );
-        put(out, held);
-        return;
-    }
-    let held = last_line(
+    let held = text::last_line(
         out,
         progress.gathered,
         progress.offset,
-        b" refused ",
-        progress.refused as u64,
+        progress.frames,
+        progress.refused,
     );
     put(out, held);
 }

@@ -5,3 +5,4 @@ pub mod Quantity
 pub mod Arrivals
 pub mod Written
 pub mod Requested
+pub mod Streamed

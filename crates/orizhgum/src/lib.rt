@@ -10,6 +10,7 @@ pub mod entry;
 pub mod groups;
 pub mod records;
 pub mod requested;
+pub mod streamed;
 pub mod written;
 
 // The frame that some bytes begin with: its type, the body's length and the length of the frame; zeros where it is refused.

@@ -26,6 +26,12 @@ duplicateNumber = 104
 abbrev pub nothingMissingNumber : ℕ
 nothingMissingNumber = 105
 
+abbrev pub moreNumber : ℕ
+moreNumber = 106
+
+abbrev pub endNumber : ℕ
+endNumber = 107
+
 -- C1: plain where it is accepted, else the refusal's number
 abbrev pub answerNumber : {A : Type 0} → Answer A → ℕ
 answerNumber (accepted x) = plain

@@ -32,3 +32,7 @@ pub const LATE: u32 = 103;
 pub const DUPLICATE: u32 = 104;
 
 pub const NOTHING_MISSING: u32 = 105;
+
+pub const MORE: u32 = 106;
+
+pub const END: u32 = 107;

@@ -1,0 +1,7 @@
+pub mod Blocks
+pub mod Cuttings
+pub mod Leading
+pub mod Pushes
+pub mod Readings
+pub mod States
+pub mod Unique

@@ -1,0 +1,189 @@
+-- The states that calls lead to, and what one call does in each.
+-- Assumes nothing.
+use Prim.Native.Nat.{ℕ, _+_, _≤_, _<_}
+use mathlib.Core.Path.{_≡_, refl, ap, sym, _∙_}
+use mathlib.Core.Bool.{Bool, true, false, cond, _&&_, _||_}
+use mathlib.Core.Logic.{_⊎_, inl, inr}
+use mathlib.Core.List.{List, [], _++_}
+use native.Mathlib.Omega.{arith}
+use borrow.Author.Tests.{le-leb, lt-ltb, lt-leb, eq-eqb, ne-eqb, ltb-true, leb-true, eqb-true}
+use lib.Dec.{ltb, eqb}
+use lib.ListN.{length, take}
+use lib.Seq.{take-length, take-paste}
+use Rattle.wire.specs.Answer.{refused, with-values}
+use Rattle.wire.specs.Bytes.{splice}
+use Rattle.wire.specs.Refusal.{tooShort, tooLong, wrongSum, malformed}
+use Rattle.wire.proofs.PutAt.{paste-all}
+use Rattle.frame.specs.Framing.{read, longest}
+use Rattle.frame.specs.Wanting.{wanting}
+use Rattle.frame.proofs.Far.{Far, in-header, above, in-body, at-end, far, judged}
+use Rattle.streams.specs.declared.Stream.{Stream}
+use Rattle.streams.specs.Stream.{going, over, stopping, state, unfinished, led, readOn, keptOn, stay, answerAgain, pushed, bufferLeft, ended}
+use Rattle.streams.specs.Steps.{IsOver, Holding}
+
+-- bytes that lack some are fewer than the longest frame has
+fits-far : {h limit : ℕ} {s : List ℕ} {w r : ℕ} → Far h limit s w r → 0 < w → length s < longest h limit
+fits-far (in-header a) z = omega arith
+fits-far (above a b) z = absurd (omega arith)
+fits-far (in-body a b d) z = omega arith
+fits-far (at-end a b d) z = absurd (omega arith)
+
+pub fits : (h limit : ℕ) (s : List ℕ) → 0 < wanting h limit s → length s < longest h limit
+fits h limit s z = fits-far (far h limit s) z
+
+-- no bytes lack some
+pub none-lacks : (h limit : ℕ) → 4 ≤ h → 0 < wanting h limit []
+none-lacks h limit g = by (far h limit []) where
+  by : {w r : ℕ} → Far h limit [] w r → 0 < w
+  by (in-header a) = omega arith
+  by (above a b) = absurd (omega arith)
+  by (in-body a b d) = omega arith
+  by (at-end a b d) = absurd (omega arith)
+
+-- where nothing is missing, a refusal is not 1
+pub not-one : (h limit : ℕ) (s : List ℕ) {n : ℕ} {vs : List ℕ} → wanting h limit s ≡ 0 → read h limit s ≡ refused n vs → n ≡ tooShort → ⊥
+not-one h limit s {n} {vs} w e z = judged h limit s w (rw (e ∙ ap (λ (m : ℕ). refused m vs) z) (with-values vs))
+
+-- bytes placed behind the first ones
+pub take-splice : (out : List ℕ) (n : ℕ) (bs : List ℕ) → n + length bs ≤ length out → take (n + length bs) (splice out n bs) ≡ take n out ++ bs
+take-splice out n bs h =
+    ap (take (n + length bs)) (sym (paste-all out n bs))
+    ∙ take-paste out n bs (length bs) (omega arith) (omega arith)
+    ∙ ap (λ (x : List ℕ). take n out ++ x) (take-length bs)
+
+-- ---- marks
+
+and-true : (a b : Bool) → a && b ≡ true → (a ≡ true) × (b ≡ true)
+and-true true b e = (refl, e)
+and-true false b e = let z : _≡_ {A = ℕ} 0 1 = cc in absurd (omega arith)
+
+or-true : (a b : Bool) → a || b ≡ true → (a ≡ true) ⊎ (b ≡ true)
+or-true true b e = inl refl
+or-true false b e = inr e
+
+-- ---- a state that calls lead to
+
+-- all that is known of one: it goes on or was told to have ended, with an unfinished frame; or it stopped
+pub data Led (h limit : ℕ) (buffer : List ℕ) : ℕ → ℕ → Type 0 where
+  goes : {held : ℕ} → Holding h limit buffer held → Led h limit buffer going held
+  told : {held : ℕ} → Holding h limit buffer held → Led h limit buffer over held
+  stop2 : longest h limit ≤ length buffer → Led h limit buffer tooLong 0
+  stop3 : longest h limit ≤ length buffer → Led h limit buffer wrongSum 0
+
+module _ (h limit : ℕ) (buffer : List ℕ) where
+  -- the tests, one by one
+
+  pub led-small : (st : Stream) → length buffer < longest h limit → false ≡ led h limit st buffer
+  unfolding led
+  led-small st b = rw (lt-leb (longest h limit) (length buffer) b)
+
+  pub led-beyond : (st : Stream) → longest h limit ≤ length buffer → length buffer < st .held → false ≡ led h limit st buffer
+  unfolding led
+  led-beyond st b l = rw (le-leb (longest h limit) (length buffer) b, lt-leb (st .held) (length buffer) l)
+
+  pub led-young :
+      (st : Stream) → longest h limit ≤ length buffer → st .held ≤ length buffer → eqb (st .mark) going || eqb (st .mark) over ≡ true →
+      ltb 0 (wanting h limit (unfinished st buffer)) ≡ led h limit st buffer
+  unfolding led
+  led-young st b l m = rw (le-leb (longest h limit) (length buffer) b, le-leb (st .held) (length buffer) l, m)
+
+  pub led-old :
+      (st : Stream) → longest h limit ≤ length buffer → st .held ≤ length buffer → eqb (st .mark) going || eqb (st .mark) over ≡ false →
+      stopping (st .mark) && eqb (st .held) 0 ≡ led h limit st buffer
+  unfolding led
+  led-old st b l m = rw (le-leb (longest h limit) (length buffer) b, le-leb (st .held) (length buffer) l, m)
+
+  -- what the test says, and back
+
+  pub led-as : {mark held : ℕ} → Led h limit buffer mark held → led h limit (state mark held) buffer ≡ true
+  led-as (goes {held} k) = sym (led-young (state going held) (k .room) (k .within) refl) ∙ lt-ltb 0 _ (k .lacks)
+  led-as (told {held} k) = sym (led-young (state over held) (k .room) (k .within) refl) ∙ lt-ltb 0 _ (k .lacks)
+  led-as (stop2 b) = sym (led-old (state tooLong 0) b (omega arith) refl)
+  led-as (stop3 b) = sym (led-old (state wrongSum 0) b (omega arith) refl)
+
+  pub led-going : (st : Stream) → Holding h limit buffer (st .held) → st .mark ≡ going → led h limit st buffer ≡ true
+  led-going st k m = led-as (rw m (goes k))
+
+  by-young :
+      (mark held : ℕ) → Holding h limit buffer held → (eqb mark going ≡ true) ⊎ (eqb mark over ≡ true) → Led h limit buffer mark held
+  by-young mark held k (inl e) = rw (eqb-true mark going e) (goes k)
+  by-young mark held k (inr e) = rw (eqb-true mark over e) (told k)
+
+  by-old :
+      (mark held : ℕ) → longest h limit ≤ length buffer → held ≡ 0 → (eqb mark tooLong ≡ true) ⊎ (eqb mark wrongSum ≡ true) →
+      Led h limit buffer mark held
+  by-old mark held b z (inl e) = rw (eqb-true mark tooLong e, z) (stop2 b)
+  by-old mark held b z (inr e) = rw (eqb-true mark wrongSum e, z) (stop3 b)
+
+  by-mark :
+      (mark held : ℕ) (t : Bool) → eqb mark going || eqb mark over ≡ t → longest h limit ≤ length buffer → held ≤ length buffer →
+      cond t (ltb 0 (wanting h limit (take held buffer))) (stopping mark && eqb held 0) ≡ true → Led h limit buffer mark held
+  by-mark mark held true e b l p =
+      by-young mark held (record { room = b; within = l; lacks = ltb-true 0 (wanting h limit (take held buffer)) p }) (or-true _ _ e)
+  by-mark mark held false e b l p =
+      let q = and-true _ _ p in
+      by-old mark held b (eqb-true held 0 (q .1)) (or-true _ _ (q .0))
+
+  pub led-known : (st : Stream) → led h limit st buffer ≡ true → Led h limit buffer (st .mark) (st .held)
+  unfolding led
+  led-known st e =
+      let p = and-true _ _ e in
+      let q = and-true _ _ (p .1) in
+      by-mark (st .mark) (st .held) _ refl (leb-true (longest h limit) (length buffer) (p .0)) (leb-true (st .held) (length buffer) (q .0)) (q .1)
+
+  -- ---- the calls
+
+  -- a stream that goes on reads held bytes and cut as one
+  pub push-on :
+      (st : Stream) (c : List ℕ) → led h limit st buffer ≡ true → st .mark ≡ going →
+      (pushed h limit st buffer c ≡ readOn h limit (unfinished st buffer) c)
+      × (bufferLeft h limit st buffer c ≡ keptOn h limit (unfinished st buffer) c buffer)
+  unfolding pushed bufferLeft
+  push-on st c e m = (rw (e, eq-eqb (st .mark) going m), rw (e, eq-eqb (st .mark) going m))
+
+  -- one that is over takes nothing and repeats its answer
+  pub push-over :
+      (st : Stream) (c : List ℕ) → led h limit st buffer ≡ true → (st .mark ≡ going → ⊥) →
+      (pushed h limit st buffer c ≡ stay (answerAgain st) st) × (bufferLeft h limit st buffer c ≡ buffer)
+  unfolding pushed bufferLeft
+  push-over st c e m = (rw (e, ne-eqb (st .mark) going m), rw (e, ne-eqb (st .mark) going m))
+
+  pub push-malformed :
+      (st : Stream) (c : List ℕ) → led h limit st buffer ≡ false →
+      (pushed h limit st buffer c ≡ stay (refused malformed []) st) × (bufferLeft h limit st buffer c ≡ buffer)
+  unfolding pushed bufferLeft
+  push-malformed st c e = (rw e, rw e)
+
+  pub end-on :
+      (st : Stream) → led h limit st buffer ≡ true → st .mark ≡ going →
+      ended h limit st buffer ≡ stay (answerAgain (state over (st .held))) (state over (st .held))
+  unfolding ended
+  end-on st e m = rw (e, eq-eqb (st .mark) going m)
+
+  pub end-over : (st : Stream) → led h limit st buffer ≡ true → (st .mark ≡ going → ⊥) → ended h limit st buffer ≡ stay (answerAgain st) st
+  unfolding ended
+  end-over st e m = rw (e, ne-eqb (st .mark) going m)
+
+  pub end-malformed : (st : Stream) → led h limit st buffer ≡ false → ended h limit st buffer ≡ stay (refused malformed []) st
+  unfolding ended
+  end-malformed st e = rw e
+
+  -- a state that does not go on is over
+  by-led : {mark held : ℕ} → Led h limit buffer mark held → (mark ≡ going → ⊥) → IsOver mark
+  by-led (goes k) m = absurd (m refl)
+  by-led (told k) m = inl refl
+  by-led (stop2 b) m = inr (inl refl)
+  by-led (stop3 b) m = inr (inr refl)
+
+  pub over-of : (st : Stream) → led h limit st buffer ≡ true → (st .mark ≡ going → ⊥) → IsOver (st .mark)
+  over-of st e m = by-led (led-known st e) m
+
+  -- one that goes on holds an unfinished frame
+  by-open : {mark held : ℕ} → Led h limit buffer mark held → mark ≡ going → Holding h limit buffer held
+  by-open (goes k) m = k
+  by-open (told k) m = k
+  by-open (stop2 b) m = absurd (omega arith)
+  by-open (stop3 b) m = absurd (omega arith)
+
+  pub held-of : (st : Stream) → led h limit st buffer ≡ true → st .mark ≡ going → Holding h limit buffer (st .held)
+  held-of st e m = by-open (led-known st e) m

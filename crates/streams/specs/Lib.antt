@@ -1,0 +1,5 @@
+pub mod Cutting
+pub mod Leads
+pub mod Paper
+pub mod Steps
+pub mod Stream

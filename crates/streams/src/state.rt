@@ -1,0 +1,56 @@
+// The states that calls lead to, and what a stream that is over answers.
+ghost use mathlib.Core.Path.{_≡_};
+ghost use Rattle.frame.specs.Framing.{headerWidth, bodyLimit};
+ghost use Rattle.streams.specs.Stream.{state, led, stay, answerAgain};
+ghost use Rattle.streams.specs.Steps.{IsOver};
+ghost use Rattle.streams.specs.Paper.{meansSays, meansPushed};
+use crate::Pushed;
+use crate::Says;
+use crate::Stream;
+use frame::Frame;
+use frame::Refusal;
+use wire::answers;
+
+// Whether calls lead to a state.
+pub(crate) fn led(buffer: &[u8], held: usize, mark: u32) -> bool
+    ensures { λ r. ⌜ r ≡ led headerWidth bodyLimit (state mark held) (now (buffer .entry)) ⌝ }
+{
+    if buffer.len() < Frame::LIMIT {
+        return false;
+    }
+    if buffer.len() < held {
+        return false;
+    }
+    if (mark == Stream::GOING) | (mark == Stream::ENDED) {
+        return 0 < frame::wanting(&buffer[0..held]);
+    }
+    ((mark == answers::TOO_LONG) | (mark == answers::WRONG_SUM)) & (held == 0)
+}
+
+// What a stream that is over answers, at every call.
+pub(crate) fn again(held: usize, mark: u32) -> Says
+    requires { ⌜ IsOver mark ⌝ }
+    ensures { λ r. ⌜ meansSays r ≡ answerAgain (state mark held) ⌝ }
+{
+    if mark == Stream::ENDED {
+        if held == 0 {
+            return Says::End;
+        }
+        return Says::Refused(Refusal::TooShort);
+    }
+    if mark == answers::TOO_LONG {
+        return Says::Refused(Refusal::TooLong);
+    }
+    Says::Refused(Refusal::WrongSum)
+}
+
+// Nothing is taken, and the state is as given.
+pub(crate) fn stay(says: Says, held: usize, mark: u32) -> Pushed
+    ensures { λ r. ⌜ meansPushed r ≡ stay (meansSays says) (state mark held) ⌝ }
+{
+    Pushed {
+        says,
+        took: 0,
+        next: Stream { held, mark },
+    }
+}

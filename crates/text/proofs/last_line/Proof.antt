@@ -1,0 +1,23 @@
+use borrow.Author.Needs.{needs}
+use borrow.Author.Tests.{eq-eqb, ne-eqb}
+use Rattle.text.proofs.Pieces.{more}
+use Rattle.text.proofs.last_line.Statement.{statement}
+use Rattle.text.proofs.last_line.Tie as tie
+
+returns : tie.Need-returns
+returns c =
+    let k2 = c .before .before in
+    let k1 = k2 .before .before .before .before .before in
+    rw (eq-eqb _ _ (k1 .before .before .before .if1 .taken)) (more _ _ _ _ (k1 .followed .ensures) (k2 .followed2 .ensures))
+
+returns-2 : tie.Need-returns-2
+returns-2 c =
+    let k2 = c .before .before in
+    let k1 = k2 .before .before .before .before .before in
+    rw (ne-eqb _ _ (k1 .before .before .before .if1 .left)) (more _ _ _ _ (k1 .followed3 .ensures) (k2 .followed4 .ensures))
+
+pub last-line-spec : {M : Type 1} → statement M
+last-line-spec =
+    tie.close (tie.spec (λ c. search needs) (λ c κs. search needs) (λ c. search needs) (λ c κs. search needs)
+    (λ c. search needs) returns (λ c. search needs) (λ c κs. search needs) (λ c. search needs) (λ c κs. search needs)
+    (λ c. search needs) returns-2)
