@@ -225,7 +225,7 @@ fn row(bench: &Bench, what: &str, bytes: &[u8], size: usize) {
     bench.race(
         Row {
             what,
-            turns: 5,
+            turns: 20,
             parts: seen.0,
         },
         || play(&mut Lent::new(&mut a), black_box(bytes), size),

@@ -576,7 +576,7 @@ fn sizes() -> String {
 }
 
 /// The version's three numbers.
-const VERSION: [usize; 3] = [0, 3, 0];
+const VERSION: [usize; 3] = [0, 3, 1];
 
 /// The version as one text.
 pub fn version() -> String {

@@ -112,9 +112,9 @@ in-cuts-of x =
     record {
       cutting = cutting headerWidth bodyLimit (lit≤ tt) x;
       every-cutting = every-cutting headerWidth bodyLimit (lit≤ tt) x;
-      takes = takes headerWidth bodyLimit (lit≤ tt) x (lit< tt);
+      takes = takes headerWidth bodyLimit (lit≤ tt) x;
       ten = ten headerWidth bodyLimit (lit≤ tt) x (lit< tt);
-      repeats = repeats headerWidth bodyLimit (lit≤ tt) x (lit< tt);
+      repeats = repeats headerWidth bodyLimit (lit≤ tt) x;
     }
 
 pub in-cuts : InCuts PushTells EndTells

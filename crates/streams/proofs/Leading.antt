@@ -185,7 +185,7 @@ module _ (h limit : ℕ) (g : 4 ≤ h) where
 
   -- ---- the calls
 
-  module _ {Push : PushCall} {End : EndCall} (x : Answers h limit Push End) (l : limit + 1 < 256 ^ 4) where
+  module _ {Push : PushCall} {End : EndCall} (x : Answers h limit Push End) where
     leads-led : {st : Stream} {buffer : List ℕ} → Leads h limit Push End st buffer → led h limit st buffer ≡ true
     leads-led (fresh buffer b) = led-as h limit buffer (goes (holds-none h limit g buffer b))
     leads-led (push {st} {buffer} c t left from p) =
@@ -222,54 +222,57 @@ module _ (h limit : ℕ) (g : 4 ≤ h) where
         in
         rw (next, left) at from
 
-    led-leads : {buffer : List ℕ} {mark held : ℕ} → Led h limit buffer mark held → Leads h limit Push End (state mark held) buffer
-    led-leads {buffer} (goes {held} k) = leads-going buffer held k
-    led-leads {buffer} (told {held} k) =
-        let e = led-as h limit buffer (goes k) in
-        rw (end-on h limit buffer (state going held) e refl) at (close _ (leads-going buffer held k) (x .end-can (state going held) buffer))
-    led-leads {buffer} (stop2 b) = let s = many-stops h limit g l in leads-stop buffer (tooMany h limit) b (s .0) (s .1) by-2
-    led-leads {buffer} (stop3 b) = let s = unsummed-stops h limit g in leads-stop buffer (unsummed h) b (s .0) (s .1) by-3
+    -- ---- 10, where a header can say more than the limit
 
-    -- no calls lead to a state exactly where the test fails
-    none-leads : (st : Stream) (buffer : List ℕ) → (Leads h limit Push End st buffer → ⊥) → led h limit st buffer ≡ false
-    none-leads st buffer n = not-led h limit st buffer (λ e. n (led-leads (led-known h limit buffer st e)))
+    module _ (l : limit + 1 < 256 ^ 4) where
+      led-leads : {buffer : List ℕ} {mark held : ℕ} → Led h limit buffer mark held → Leads h limit Push End (state mark held) buffer
+      led-leads {buffer} (goes {held} k) = leads-going buffer held k
+      led-leads {buffer} (told {held} k) =
+          let e = led-as h limit buffer (goes k) in
+          rw (end-on h limit buffer (state going held) e refl) at (close _ (leads-going buffer held k) (x .end-can (state going held) buffer))
+      led-leads {buffer} (stop2 b) = let s = many-stops h limit g l in leads-stop buffer (tooMany h limit) b (s .0) (s .1) by-2
+      led-leads {buffer} (stop3 b) = let s = unsummed-stops h limit g in leads-stop buffer (unsummed h) b (s .0) (s .1) by-3
 
-    led-not : (st : Stream) (buffer : List ℕ) → led h limit st buffer ≡ false → Leads h limit Push End st buffer → ⊥
-    led-not st buffer e from = true≢false (sym (leads-led from) ∙ e)
+      -- no calls lead to a state exactly where the test fails
+      none-leads : (st : Stream) (buffer : List ℕ) → (Leads h limit Push End st buffer → ⊥) → led h limit st buffer ≡ false
+      none-leads st buffer n = not-led h limit st buffer (λ e. n (led-leads (led-known h limit buffer st e)))
 
-    else-leads : (st : Stream) (buffer : List ℕ) → (led h limit st buffer ≡ false → ⊥) → Leads h limit Push End st buffer
-    else-leads st buffer n = by (led h limit st buffer) refl where
-      by : (t : Bool) → led h limit st buffer ≡ t → Leads h limit Push End st buffer
-      by true e = led-leads (led-known h limit buffer st e)
-      by false e = absurd (n e)
+      led-not : (st : Stream) (buffer : List ℕ) → led h limit st buffer ≡ false → Leads h limit Push End st buffer → ⊥
+      led-not st buffer e from = true≢false (sym (leads-led from) ∙ e)
 
-    push-ten-exactly :
-        (st : Stream) (buffer c : List ℕ) (t : Told) (left : List ℕ) → Push st buffer c t left → TenPushed h limit Push End st buffer c t left
-    push-ten-exactly st buffer c t left p =
-        let q = x .push-as p in
-        let off : t .said ≡ refused malformed [] → led h limit st buffer ≡ false =
-        λ d. not-led h limit st buffer (λ e. push-ten st buffer c e (sym (ap (λ (t : Told). t .said) (q .0)) ∙ d))
-        in
-        record {
-          exactly = (λ d. led-not st buffer (off d), λ n. ap (λ (t : Told). t .said) (q .0 ∙ push-malformed h limit buffer st c (none-leads st buffer n) .0));
-          else = λ n. else-leads st buffer (λ e. n (ap (λ (t : Told). t .said) (q .0 ∙ push-malformed h limit buffer st c e .0)));
-          stands = λ d. let m = push-malformed h limit buffer st c (off d) in (q .0 ∙ m .0, q .1 ∙ m .1);
-        }
+      else-leads : (st : Stream) (buffer : List ℕ) → (led h limit st buffer ≡ false → ⊥) → Leads h limit Push End st buffer
+      else-leads st buffer n = by (led h limit st buffer) refl where
+        by : (t : Bool) → led h limit st buffer ≡ t → Leads h limit Push End st buffer
+        by true e = led-leads (led-known h limit buffer st e)
+        by false e = absurd (n e)
 
-    end-ten-exactly : (st : Stream) (buffer : List ℕ) (t : Told) → End st buffer t → TenEnded h limit Push End st buffer t
-    end-ten-exactly st buffer t p =
-        let q = x .end-as p in
-        let off : t .said ≡ refused malformed [] → led h limit st buffer ≡ false =
-        λ d. not-led h limit st buffer (λ e. end-ten st buffer e (sym (ap (λ (t : Told). t .said) q) ∙ d))
-        in
-        record {
-          exactly = (λ d. led-not st buffer (off d), λ n. ap (λ (t : Told). t .said) (q ∙ end-malformed h limit buffer st (none-leads st buffer n)));
-          else = λ n. else-leads st buffer (λ e. n (ap (λ (t : Told). t .said) (q ∙ end-malformed h limit buffer st e)));
-          stands = λ d. q ∙ end-malformed h limit buffer st (off d);
-        }
+      push-ten-exactly :
+          (st : Stream) (buffer c : List ℕ) (t : Told) (left : List ℕ) → Push st buffer c t left → TenPushed h limit Push End st buffer c t left
+      push-ten-exactly st buffer c t left p =
+          let q = x .push-as p in
+          let off : t .said ≡ refused malformed [] → led h limit st buffer ≡ false =
+          λ d. not-led h limit st buffer (λ e. push-ten st buffer c e (sym (ap (λ (t : Told). t .said) (q .0)) ∙ d))
+          in
+          record {
+            exactly = (λ d. led-not st buffer (off d), λ n. ap (λ (t : Told). t .said) (q .0 ∙ push-malformed h limit buffer st c (none-leads st buffer n) .0));
+            else = λ n. else-leads st buffer (λ e. n (ap (λ (t : Told). t .said) (q .0 ∙ push-malformed h limit buffer st c e .0)));
+            stands = λ d. let m = push-malformed h limit buffer st c (off d) in (q .0 ∙ m .0, q .1 ∙ m .1);
+          }
 
-    pub ten : Ten h limit Push End
-    ten = record { pushed = push-ten-exactly; ended = end-ten-exactly }
+      end-ten-exactly : (st : Stream) (buffer : List ℕ) (t : Told) → End st buffer t → TenEnded h limit Push End st buffer t
+      end-ten-exactly st buffer t p =
+          let q = x .end-as p in
+          let off : t .said ≡ refused malformed [] → led h limit st buffer ≡ false =
+          λ d. not-led h limit st buffer (λ e. end-ten st buffer e (sym (ap (λ (t : Told). t .said) q) ∙ d))
+          in
+          record {
+            exactly = (λ d. led-not st buffer (off d), λ n. ap (λ (t : Told). t .said) (q ∙ end-malformed h limit buffer st (none-leads st buffer n)));
+            else = λ n. else-leads st buffer (λ e. n (ap (λ (t : Told). t .said) (q ∙ end-malformed h limit buffer st e)));
+            stands = λ d. q ∙ end-malformed h limit buffer st (off d);
+          }
+
+      pub ten : Ten h limit Push End
+      ten = record { pushed = push-ten-exactly; ended = end-ten-exactly }
 
     -- ---- what is taken
 

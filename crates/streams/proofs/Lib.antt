@@ -1,4 +1,3 @@
-pub mod Blocks
 pub mod Cuttings
 pub mod Leading
 pub mod Pushes

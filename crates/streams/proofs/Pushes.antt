@@ -16,9 +16,9 @@ use Rattle.wire.proofs.PutAt.{length-splice, splice-more}
 use Rattle.frame.specs.Framing.{read, longest}
 use Rattle.frame.specs.Wanting.{wanting, reach}
 use Rattle.frame.specs.declared.Frame.{Frame}
-use Rattle.frame.proofs.Far.{missing, judged, reach-within, reach-limit, short-reach, whole-reach, done, still, onward-to, header-there, end-there, stops, stop-wants}
+use Rattle.frame.proofs.Far.{in-header, wants, missing, judged, reach-within, reach-limit, short-reach, whole-reach, done, still, onward-to, header-there, end-there, stops, stop-wants}
 use Rattle.streams.specs.Stream.{going, state, newStream, frame, more, inCut, stands, nextOf, taken, readOn, keptOn}
-use Rattle.streams.specs.Steps.{Holding, Judgeable, moreTold, judged as judgedAs}
+use Rattle.streams.specs.Steps.{Holding, Lacking, Brought, Judgeable, moreTold, judged as judgedAs}
 use Rattle.streams.proofs.States.{fits, take-splice, not-one}
 
 module _ (h limit : ℕ) where
@@ -99,11 +99,6 @@ module _ (h limit : ℕ) where
       let z : f .total - 0 ≡ f .total = omega arith in
       (sym (on-frame [] c f e ∙ rw z), sym (kept-none c buffer (whole-reach h limit c f e .0)))
 
-  pub begin-more :
-      (c buffer : List ℕ) → longest h limit ≤ length buffer → 0 < wanting h limit c →
-      (0 + length c ≤ length buffer) × (moreTold (length c) (length c) ≡ readOn h limit [] c) × (splice buffer 0 c ≡ keptOn h limit [] c buffer)
-  begin-more c buffer b z = (omega (arith, fits h limit c z), sym (on-lacking [] c z), sym (kept-all [] c buffer z))
-
   pub begin-stop :
       (c buffer : List ℕ) (n : ℕ) (vs : List ℕ) → wanting h limit c ≡ 0 → read h limit c ≡ refused n vs →
       (record { said = refused n vs; took = reach h limit c; next = state n 0 } ≡ readOn h limit [] c) × (buffer ≡ keptOn h limit [] c buffer)
@@ -117,187 +112,237 @@ same-next (refused k vs) n m z = let y : k ≡ tooShort → ⊥ = λ e. z (rw e 
 
 -- ---- where some are held, at the front of the buffer
 
-module _
-    (h limit : ℕ) (buffer : List ℕ) (held : ℕ) (c : List ℕ) (g : 4 ≤ h) (k : Holding h limit buffer held) (p : 0 < held) where
+module _ (h limit : ℕ) (buffer : List ℕ) (held : ℕ) (c : List ℕ) where
+  -- bytes are still missing: all of the cut goes behind those held
+  pub keep-all :
+      Lacking h limit buffer held c →
+      (held + length c ≤ length buffer)
+      × (length c ≤ longest h limit)
+      × (moreTold (length c) (held + length c) ≡ readOn h limit (take held buffer) c)
+      × (splice buffer held c ≡ keptOn h limit (take held buffer) c buffer)
+  keep-all k =
+      let u = take held buffer in
+      let l : length u ≡ held = length-take-le held buffer (k .within) in
+      let n : length (u ++ c) ≡ held + length c = omega (arith, length-append u c, l) in
+      let f = fits h limit (u ++ c) (k .lacks) in (
+        omega (arith, f, n, k .room),
+        omega (arith, f, n),
+        sym (on-lacking h limit u c (k .lacks) ∙ rw n),
+        sym (kept-all h limit u c buffer (k .lacks) ∙ rw l),
+      )
+
+  -- the cut has fewer bytes than are missing
+  pub few-lacking : 4 ≤ h → Holding h limit buffer held → length c < wanting h limit (take held buffer) → Lacking h limit buffer held c
+  few-lacking g k i =
+      record { room = k .room; within = k .within; lacks = rw (still h limit (take held buffer) c g i .0) (omega arith) }
+
+-- no bytes are held, and the cut lacks some
+pub none-lacking : (h limit : ℕ) (buffer c : List ℕ) → longest h limit ≤ length buffer → 0 < wanting h limit c → Lacking h limit buffer 0 c
+none-lacking h limit buffer c b z = record { room = b; within = omega arith; lacks = z }
+
+-- so many bytes of the cut are judged with those held, and no more are: where they go, and what the call tells then
+pub record Ends (h limit : ℕ) (buffer : List ℕ) (held : ℕ) (c : List ℕ) (n : ℕ) : Type 0 where
+  pub room : held + n ≤ length buffer
+  pub fits : (held + length (take n c) ≤ length buffer) × (length (take n c) ≤ longest h limit)
+  pub size : length (splice buffer held (take n c)) ≡ length buffer
+  pub enough : Judgeable h limit (take (held + n) (splice buffer held (take n c))) held
+  pub told : judgedAs h limit (take (held + n) (splice buffer held (take n c))) held ≡ readOn h limit (take held buffer) c
+  pub kept : splice buffer held (take n c) ≡ keptOn h limit (take held buffer) c buffer
+
+module _ (h limit : ℕ) (buffer : List ℕ) (held lacks : ℕ) (c : List ℕ) (g : 4 ≤ h) (q : Brought h limit buffer held lacks c) where
   abbrev u : List ℕ
   u = take held buffer
 
-  abbrev lacks : ℕ
-  lacks = wanting h limit u
+  abbrev k : Holding h limit buffer held
+  k = q .holding
 
   length-u : length u ≡ held
   length-u = length-take-le held buffer (k .within)
 
-  -- bytes are still missing: all of the cut goes behind those held
-  go-more :
-      0 < wanting h limit (u ++ c) →
-      (held + length c ≤ length buffer)
-      × (moreTold (length c) (held + length c) ≡ readOn h limit u c)
-      × (splice buffer held c ≡ keptOn h limit u c buffer)
-  go-more z =
-      let n : length (u ++ c) ≡ held + length c = omega (arith, length-append u c, length-u) in
-      let l : held + length c ≤ length buffer = omega (arith, fits h limit (u ++ c) z, k .room) in
-      (l, sym (on-lacking h limit u c z ∙ rw n), sym (kept-all h limit u c buffer z ∙ rw length-u))
+  -- where the header is not there, its bytes are missing first
+  pub lead-brought : held < h → Brought h limit buffer held (h - held) c
+  lead-brought l =
+      let w : wanting h limit u ≡ h - length u = wants (in-header (omega (arith, length-u))) in
+      let e : h - held ≡ wanting h limit u = sym (w ∙ rw length-u) in
+      record { holding = k; some = q .some; wants = e; comes = omega (arith, e, q .wants, q .comes) }
 
-  -- the cut has fewer bytes than are missing
-  pub go-few :
-      length c < lacks →
-      (held + length c ≤ length buffer)
-      × (moreTold (length c) (held + length c) ≡ readOn h limit u c)
-      × (splice buffer held c ≡ keptOn h limit u c buffer)
-  go-few i = go-more (rw (still h limit u c g i .0) (omega arith))
+  -- ---- so many bytes of the cut are judged with those held, and no more are
+
+  module _ (n : ℕ) (i : n ≤ length c) (w : wanting h limit (u ++ c) ≡ 0) (r : reach h limit (u ++ c) ≡ held + n) where
+    abbrev full : List ℕ
+    full = splice buffer held (take n c)
+
+    length-taken : length (take n c) ≡ n
+    length-taken = length-take-le n c i
+
+    full-room : held + n ≤ length buffer
+    full-room = omega (arith, r, reach-limit h limit (u ++ c), k .room)
+
+    full-fits : (held + length (take n c) ≤ length buffer) × (length (take n c) ≤ longest h limit)
+    full-fits = (omega (arith, length-taken, full-room), omega (arith, length-taken, r, reach-limit h limit (u ++ c)))
+
+    full-length : length full ≡ length buffer
+    full-length = length-splice buffer held (take n c) (full-fits .0)
+
+    -- the buffer begins with them
+    full-front : take (held + n) full ≡ take (reach h limit (u ++ c)) (u ++ c)
+    full-front =
+        let e : held + n ≡ held + length (take n c) = omega (arith, length-taken) in
+        let m : reach h limit (u ++ c) ≡ length u + n = omega (arith, r, length-u) in
+        let x : take (held + n) full ≡ u ++ take n c = rw e (take-splice buffer held (take n c) (full-fits .0)) in
+        let y : take (reach h limit (u ++ c)) (u ++ c) ≡ u ++ take n c = rw m (take-append-add u c n) in
+        x ∙ sym y
+
+    full-size : length (take (held + n) full) ≡ held + n
+    full-size = length-take-le (held + n) full (omega (arith, full-length, full-room))
+
+    -- they can be judged
+    full-judgeable : Judgeable h limit (take (held + n) full) held
+    full-judgeable = record { enough = rw full-front (stop-wants h limit (u ++ c) g w); some = omega (arith, full-size) }
+
+    full-judged : judgedAs h limit (take (held + n) full) held ≡ readOn h limit u c
+    unfolding readOn
+    full-judged =
+        let e : read h limit (take (held + n) full) ≡ read h limit (u ++ c) = rw full-front (stops h limit (u ++ c) g w) in
+        let m = same-next (read h limit (u ++ c)) 0 (length (u ++ c)) (judged h limit (u ++ c) w) in
+        let one : length u ≡ 0 → ⊥ = λ y. omega (arith, length-u, q .some) in
+        rw (e, full-size, m, ne-eqb (length u) 0 one, r, length-u)
+
+    full-keeps : full ≡ keptOn h limit u c buffer
+    full-keeps =
+        let m : taken h limit u c ≡ n = omega (arith, r, length-u) in
+        sym (kept-behind h limit u c buffer (λ e z. omega (arith, length-u, q .some)) ∙ rw (m, length-u))
+
+    ends : Ends h limit buffer held c n
+    ends = record { room = full-room; fits = full-fits; size = full-length; enough = full-judgeable; told = full-judged; kept = full-keeps }
 
   -- ---- what was missing comes
 
-  module _ (i : lacks ≤ length c) where
-    abbrev some : List ℕ
-    some = take lacks c
+  abbrev some : List ℕ
+  some = take lacks c
 
-    abbrev front : List ℕ
-    front = u ++ some
+  abbrev front : List ℕ
+  front = u ++ some
 
-    abbrev first : List ℕ
-    first = splice buffer held some
+  abbrev first : List ℕ
+  first = splice buffer held some
 
-    length-some : length some ≡ lacks
-    length-some = length-take-le lacks c i
+  length-some : length some ≡ lacks
+  length-some = length-take-le lacks c (q .comes)
 
-    length-front : length front ≡ held + lacks
-    length-front = omega (arith, length-append u some, length-u, length-some)
+  length-front : length front ≡ held + lacks
+  length-front = omega (arith, length-append u some, length-u, length-some)
 
-    all : front ++ drop lacks c ≡ u ++ c
-    all = append-assoc u some (drop lacks c) ∙ ap (λ (x : List ℕ). u ++ x) (take-append-drop lacks c)
+  all : front ++ drop lacks c ≡ u ++ c
+  all = append-assoc u some (drop lacks c) ∙ ap (λ (x : List ℕ). u ++ x) (take-append-drop lacks c)
 
-    left : length (drop lacks c) ≡ length c - lacks
-    left = length-drop lacks c
+  left : length (drop lacks c) ≡ length c - lacks
+  left = length-drop lacks c
 
-    -- all of it is judged
-    front-reached : reach h limit front ≡ held + lacks
-    front-reached =
-        omega (arith, onward-to h limit u some g (k .lacks) (omega (arith, length-some)), reach-within h limit front, length-front, length-u)
+  -- all of it is judged
+  front-reached : reach h limit front ≡ held + lacks
+  front-reached =
+      omega (arith, onward-to h limit u some g (k .lacks) (omega (arith, length-some, q .wants)), reach-within h limit front, length-front, length-u, q .wants)
 
-    pub first-room : held + lacks ≤ length buffer
-    first-room = omega (arith, front-reached, reach-limit h limit front, k .room)
+  pub first-room : held + lacks ≤ length buffer
+  first-room = omega (arith, front-reached, reach-limit h limit front, k .room)
 
-    pub first-fits : held + length some ≤ length buffer
-    first-fits = omega (arith, length-some, first-room)
+  pub first-fits : held + length some ≤ length buffer
+  first-fits = omega (arith, length-some, first-room)
 
-    pub first-length : length first ≡ length buffer
-    first-length = length-splice buffer held some first-fits
+  pub first-length : length first ≡ length buffer
+  first-length = length-splice buffer held some first-fits
 
-    -- the buffer begins with it
-    pub first-front : take (held + lacks) first ≡ front
-    first-front =
-        let n : held + lacks ≡ held + length some = omega (arith, length-some) in
-        rw n (take-splice buffer held some first-fits)
+  -- the buffer begins with it
+  pub first-front : take (held + lacks) first ≡ front
+  first-front =
+      let n : held + lacks ≡ held + length some = omega (arith, length-some) in
+      rw n (take-splice buffer held some first-fits)
 
-    -- more of the cut goes behind it
-    more-bytes :
-        (n : ℕ) → lacks + n ≤ length c → held + lacks + n ≤ length buffer →
-        splice first (held + lacks) (take n (drop lacks c)) ≡ splice buffer held (take (lacks + n) c)
-    more-bytes n j r =
-        let t = take n (drop lacks c) in
-        let l : length t ≡ n = length-take-le n (drop lacks c) (omega (arith, left)) in
-        let q : held + lacks ≡ held + length some = omega (arith, length-some) in
-        rw q (splice-more buffer held some t (omega (arith, l, length-some)) ∙ rw (take-add lacks n c))
+  -- where nothing is missing then, no more of the cut is judged
+  front-ends : wanting h limit front ≡ 0 → (wanting h limit (u ++ c) ≡ 0) × (reach h limit (u ++ c) ≡ held + lacks)
+  front-ends e = let d = rw all at (done h limit front (drop lacks c) g e) in (d .0, d .1 ∙ front-reached)
 
-    -- less comes than is missing then
-    pub go-less :
-        length c - lacks < wanting h limit front →
-        (held + length c ≤ length buffer)
-        × (moreTold (length c) (held + length c) ≡ readOn h limit u c)
-        × (splice first (held + lacks) (take (length c - lacks) (drop lacks c)) ≡ keptOn h limit u c buffer)
-    go-less j =
-        let w = rw all at (still h limit front (drop lacks c) g (omega (arith, left)) .0) in
-        let s = go-more (rw w (omega (arith, left))) in
-        let n : lacks + (length c - lacks) ≡ length c = omega arith in
-        let q : take (lacks + (length c - lacks)) c ≡ c = rw n (take-all (length c) c (omega arith)) in
-        (s .0, s .1, more-bytes (length c - lacks) (omega arith) (omega (arith, s .0)) ∙ rw q (s .2))
+  -- where the header was there, that is the frame's end
+  pub end-comes : h ≤ held → Ends h limit buffer held c lacks
+  end-comes b =
+      let e = front-ends (end-there h limit u some g (omega (arith, length-u)) (k .lacks) (length-some ∙ q .wants)) in
+      ends lacks (q .comes) (e .0) (e .1)
 
-    pub less-fits : length c - lacks < wanting h limit front → held + lacks + length (take (length c - lacks) (drop lacks c)) ≤ length first
-    less-fits j =
-        let l : length (take (length c - lacks) (drop lacks c)) ≡ length c - lacks = length-take-le (length c - lacks) (drop lacks c) (omega (arith, left)) in
-        omega (arith, l, first-length, go-less j .0)
+  -- more of the cut goes behind it
+  more-bytes :
+      (n : ℕ) → lacks + n ≤ length c → held + lacks + n ≤ length buffer →
+      splice first (held + lacks) (take n (drop lacks c)) ≡ splice buffer held (take (lacks + n) c)
+  more-bytes n j r =
+      let t = take n (drop lacks c) in
+      let l : length t ≡ n = length-take-le n (drop lacks c) (omega (arith, left)) in
+      let o : held + lacks ≡ held + length some = omega (arith, length-some) in
+      rw o (splice-more buffer held some t (omega (arith, l, length-some)) ∙ rw (take-add lacks n c))
 
-    -- ---- or as much
+  -- less comes than is missing then
+  less-lacking : length c - lacks < wanting h limit front → Lacking h limit buffer held c
+  less-lacking j =
+      let w = rw all at (still h limit front (drop lacks c) g (omega (arith, left)) .0) in
+      record { room = k .room; within = k .within; lacks = rw w (omega (arith, left)) }
 
-    module _ (j : wanting h limit front ≤ length c - lacks) where
-      abbrev rest : ℕ
-      rest = wanting h limit front
+  pub go-less :
+      length c - lacks < wanting h limit front →
+      (moreTold (length c) (held + length c) ≡ readOn h limit u c)
+      × (splice first (held + lacks) (take (length c - lacks) (drop lacks c)) ≡ keptOn h limit u c buffer)
+  go-less j =
+      let s = keep-all h limit buffer held c (less-lacking j) in
+      let n : lacks + (length c - lacks) ≡ length c = omega arith in
+      let t : take (lacks + (length c - lacks)) c ≡ c = rw n (take-all (length c) c (omega arith)) in
+      (s .2, more-bytes (length c - lacks) (omega arith) (omega (arith, s .0)) ∙ rw t (s .3))
 
-      abbrev next : List ℕ
-      next = take rest (drop lacks c)
+  pub less-fits :
+      length c - lacks < wanting h limit front →
+      (held + lacks + length (take (length c - lacks) (drop lacks c)) ≤ length first)
+      × (length (take (length c - lacks) (drop lacks c)) ≤ longest h limit)
+  less-fits j =
+      let l : length (take (length c - lacks) (drop lacks c)) ≡ length c - lacks = length-take-le (length c - lacks) (drop lacks c) (omega (arith, left)) in
+      let s = keep-all h limit buffer held c (less-lacking j) in
+      (omega (arith, l, first-length, s .0), omega (arith, l, s .1))
 
-      abbrev full : List ℕ
-      full = splice first (held + lacks) next
+  -- ---- or as much
 
-      length-next : length next ≡ rest
-      length-next = length-take-le rest (drop lacks c) (omega (arith, left))
+  module _ (j : wanting h limit front ≤ length c - lacks) where
+    abbrev rest : ℕ
+    rest = wanting h limit front
 
-      -- the reading goes just so far
-      by-rest : (n : ℕ) → rest ≡ n → (wanting h limit (u ++ c) ≡ 0) × (reach h limit (u ++ c) ≡ held + lacks + rest)
-      by-rest zero e =
-          let d = rw all at (done h limit front (drop lacks c) g e) in
-          (d .0, d .1 ∙ omega (arith, front-reached))
-      by-rest (suc n) e =
-          let z : 0 < rest = omega arith in
-          let there : h ≤ length front = omega (arith, header-there h limit u (k .lacks), length-front, length-u) in
-          let w = end-there h limit front next g there z length-next in
-          let r : reach h limit (front ++ next) ≡ held + lacks + rest =
-          omega (arith, onward-to h limit front next g z (omega (arith, length-next)), reach-within h limit (front ++ next), length-append front next, length-front, length-next)
-          in
-          let o : (front ++ next) ++ drop rest (drop lacks c) ≡ u ++ c =
-          append-assoc front next (drop rest (drop lacks c)) ∙ ap (λ (x : List ℕ). front ++ x) (take-append-drop rest (drop lacks c)) ∙ all
-          in
-          let d = rw o at (done h limit (front ++ next) (drop rest (drop lacks c)) g w) in
-          (d .0, d .1 ∙ r)
+    abbrev next : List ℕ
+    next = take rest (drop lacks c)
 
-      goes : (wanting h limit (u ++ c) ≡ 0) × (reach h limit (u ++ c) ≡ held + lacks + rest)
-      goes = by-rest rest refl
+    length-next : length next ≡ rest
+    length-next = length-take-le rest (drop lacks c) (omega (arith, left))
 
-      pub full-room : held + lacks + rest ≤ length buffer
-      full-room = omega (arith, goes .1, reach-limit h limit (u ++ c), k .room)
+    -- the reading goes just so far
+    by-rest : (n : ℕ) → rest ≡ n → (wanting h limit (u ++ c) ≡ 0) × (reach h limit (u ++ c) ≡ held + (lacks + rest))
+    by-rest zero e = let d = front-ends e in (d .0, d .1 ∙ omega arith)
+    by-rest (suc n) e =
+        let z : 0 < rest = omega arith in
+        let there : h ≤ length front = omega (arith, header-there h limit u (k .lacks), length-front, length-u, q .wants) in
+        let w = end-there h limit front next g there z length-next in
+        let r : reach h limit (front ++ next) ≡ held + (lacks + rest) =
+        omega (arith, onward-to h limit front next g z (omega (arith, length-next)), reach-within h limit (front ++ next), length-append front next, length-front, length-next)
+        in
+        let o : (front ++ next) ++ drop rest (drop lacks c) ≡ u ++ c =
+        append-assoc front next (drop rest (drop lacks c)) ∙ ap (λ (x : List ℕ). front ++ x) (take-append-drop rest (drop lacks c)) ∙ all
+        in
+        let d = rw o at (done h limit (front ++ next) (drop rest (drop lacks c)) g w) in
+        (d .0, d .1 ∙ r)
 
-      pub full-fits : held + lacks + length next ≤ length first
-      full-fits = omega (arith, length-next, first-length, full-room)
+    rest-goes : (wanting h limit (u ++ c) ≡ 0) × (reach h limit (u ++ c) ≡ held + (lacks + rest))
+    rest-goes = by-rest rest refl
 
-      full-bytes : full ≡ splice buffer held (take (lacks + rest) c)
-      full-bytes = more-bytes rest (omega arith) full-room
+    pub rest-comes : Ends h limit buffer held c (lacks + rest)
+    rest-comes = ends (lacks + rest) (omega arith) (rest-goes .0) (rest-goes .1)
 
-      length-taken : length (take (lacks + rest) c) ≡ lacks + rest
-      length-taken = length-take-le (lacks + rest) c (omega arith)
+    rest-room : held + lacks + rest ≤ length buffer
+    rest-room = omega (arith, rest-goes .1, reach-limit h limit (u ++ c), k .room)
 
-      pub full-length : length full ≡ length buffer
-      full-length = ap length full-bytes ∙ length-splice buffer held (take (lacks + rest) c) (omega (arith, length-taken, full-room))
+    pub rest-fits : (held + lacks + length next ≤ length first) × (length next ≤ longest h limit)
+    rest-fits = (omega (arith, length-next, first-length, rest-room), omega (arith, length-next, rest-goes .1, reach-limit h limit (u ++ c)))
 
-      -- the buffer begins with the bytes up to there
-      full-front : take (held + lacks + rest) full ≡ take (reach h limit (u ++ c)) (u ++ c)
-      full-front =
-          let n : held + lacks + rest ≡ held + length (take (lacks + rest) c) = omega (arith, length-taken) in
-          let m : reach h limit (u ++ c) ≡ length u + (lacks + rest) = omega (arith, goes .1, length-u) in
-          let x : take (held + lacks + rest) full ≡ u ++ take (lacks + rest) c =
-          rw (n, full-bytes) (take-splice buffer held (take (lacks + rest) c) (omega (arith, length-taken, full-room)))
-          in
-          let y : take (reach h limit (u ++ c)) (u ++ c) ≡ u ++ take (lacks + rest) c = rw m (take-append-add u c (lacks + rest)) in
-          x ∙ sym y
-
-      full-size : length (take (held + lacks + rest) full) ≡ held + lacks + rest
-      full-size = length-take-le (held + lacks + rest) full (omega (arith, full-length, full-room))
-
-      -- they can be judged
-      pub full-judgeable : Judgeable h limit (take (held + lacks + rest) full) held
-      full-judgeable = record { enough = rw full-front (stop-wants h limit (u ++ c) g (goes .0)); some = omega (arith, full-size) }
-
-      pub full-judged : judgedAs h limit (take (held + lacks + rest) full) held ≡ readOn h limit u c
-      unfolding readOn
-      full-judged =
-          let w = goes .0 in
-          let e : read h limit (take (held + lacks + rest) full) ≡ read h limit (u ++ c) = rw full-front (stops h limit (u ++ c) g w) in
-          let n = same-next (read h limit (u ++ c)) 0 (length (u ++ c)) (judged h limit (u ++ c) w) in
-          let one : length u ≡ 0 → ⊥ = λ y. omega (arith, length-u) in
-          rw (e, full-size, n, ne-eqb (length u) 0 one, goes .1, length-u)
-
-      pub full-keeps : full ≡ keptOn h limit u c buffer
-      full-keeps =
-          let n : taken h limit u c ≡ lacks + rest = omega (arith, goes .1, length-u) in
-          full-bytes ∙ sym (kept-behind h limit u c buffer (λ e w. omega (arith, length-u)) ∙ rw (n, length-u))
+    pub rest-bytes : splice first (held + lacks) next ≡ splice buffer held (take (lacks + rest) c)
+    rest-bytes = more-bytes rest (omega arith) rest-room

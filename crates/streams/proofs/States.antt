@@ -1,21 +1,22 @@
 -- The states that calls lead to, and what one call does in each.
 -- Assumes nothing.
-use Prim.Native.Nat.{ℕ, _+_, _≤_, _<_}
+use Prim.Native.Nat.{ℕ, zero, suc, _+_, _≤_, _<_}
 use mathlib.Core.Path.{_≡_, refl, ap, sym, _∙_}
 use mathlib.Core.Bool.{Bool, true, false, cond, _&&_, _||_}
-use mathlib.Core.Logic.{_⊎_, inl, inr}
+use mathlib.Core.Logic.{_⊎_, inl, inr, ⊎-elim}
 use mathlib.Core.List.{List, [], _++_}
 use native.Mathlib.Omega.{arith}
-use borrow.Author.Tests.{le-leb, lt-ltb, lt-leb, eq-eqb, ne-eqb, ltb-true, leb-true, eqb-true}
-use lib.Dec.{ltb, eqb}
+use borrow.Author.Tests.{le-leb, lt-ltb, lt-leb, eq-eqb, ne-eqb, ltb-true, leb-true, leb-false, eqb-true, eqb-false}
+use lib.Dec.{ltb, leb, eqb}
 use lib.ListN.{length, take}
-use lib.Seq.{take-length, take-paste}
+use lib.Seq.{take-all, take-length, take-paste}
 use Rattle.wire.specs.Answer.{refused, with-values}
 use Rattle.wire.specs.Bytes.{splice}
 use Rattle.wire.specs.Refusal.{tooShort, tooLong, wrongSum, malformed}
 use Rattle.wire.proofs.PutAt.{paste-all}
 use Rattle.frame.specs.Framing.{read, longest}
 use Rattle.frame.specs.Wanting.{wanting}
+use Rattle.frame.proofs.Framing.{under}
 use Rattle.frame.proofs.Far.{Far, in-header, above, in-body, at-end, far, judged}
 use Rattle.streams.specs.declared.Stream.{Stream}
 use Rattle.streams.specs.Stream.{going, over, stopping, state, unfinished, led, readOn, keptOn, stay, answerAgain, pushed, bufferLeft, ended}
@@ -30,6 +31,13 @@ fits-far (at-end a b d) z = absurd (omega arith)
 
 pub fits : (h limit : ℕ) (s : List ℕ) → 0 < wanting h limit s → length s < longest h limit
 fits h limit s z = fits-far (far h limit s) z
+
+-- as many as that lack none
+pub enough-there : (h limit : ℕ) (s : List ℕ) → longest h limit ≤ length s → wanting h limit s ≡ 0
+enough-there h limit s b = by (wanting h limit s) refl where
+  by : (w : ℕ) → wanting h limit s ≡ w → wanting h limit s ≡ 0
+  by zero e = e
+  by (suc w) e = absurd (omega (arith, fits h limit s (omega arith)))
 
 -- no bytes lack some
 pub none-lacks : (h limit : ℕ) → 4 ≤ h → 0 < wanting h limit []
@@ -53,13 +61,20 @@ take-splice out n bs h =
 
 -- ---- marks
 
-and-true : (a b : Bool) → a && b ≡ true → (a ≡ true) × (b ≡ true)
+pub and-true : (a b : Bool) → a && b ≡ true → (a ≡ true) × (b ≡ true)
 and-true true b e = (refl, e)
 and-true false b e = let z : _≡_ {A = ℕ} 0 1 = cc in absurd (omega arith)
 
 or-true : (a b : Bool) → a || b ≡ true → (a ≡ true) ⊎ (b ≡ true)
 or-true true b e = inl refl
 or-true false b e = inr e
+
+-- a test that fails for the bytes that are held alone
+pub not-none : (held : ℕ) (a b : Bool) → (a && eqb held 0) && b ≡ false → a && b ≡ true → 0 < held
+not-none zero true true e f = let z : _≡_ {A = ℕ} 0 1 = cc in absurd (omega arith)
+not-none zero true false e f = let z : _≡_ {A = ℕ} 0 1 = cc in absurd (omega arith)
+not-none zero false b e f = let z : _≡_ {A = ℕ} 0 1 = cc in absurd (omega arith)
+not-none (suc held) a b e f = omega arith
 
 -- ---- a state that calls lead to
 
@@ -131,6 +146,13 @@ module _ (h limit : ℕ) (buffer : List ℕ) where
       let q = and-true _ _ (p .1) in
       by-mark (st .mark) (st .held) _ refl (leb-true (longest h limit) (length buffer) (p .0)) (leb-true (st .held) (length buffer) (q .0)) (q .1)
 
+  -- its buffer takes the longest frame
+  room-of : {mark held : ℕ} → Led h limit buffer mark held → longest h limit ≤ length buffer
+  room-of (goes k) = k .room
+  room-of (told k) = k .room
+  room-of (stop2 b) = b
+  room-of (stop3 b) = b
+
   -- ---- the calls
 
   -- a stream that goes on reads held bytes and cut as one
@@ -167,6 +189,44 @@ module _ (h limit : ℕ) (buffer : List ℕ) where
   pub end-malformed : (st : Stream) → led h limit st buffer ≡ false → ended h limit st buffer ≡ stay (refused malformed []) st
   unfolding ended
   end-malformed st e = rw e
+
+  -- one that does not go on, and one whose buffer is too small, is answered as at its end
+  by-tests :
+      (st : Stream) (c : List ℕ) (a b l : Bool) → eqb (st .mark) going ≡ a → leb (longest h limit) (length buffer) ≡ b → led h limit st buffer ≡ l →
+      a && b ≡ false → (pushed h limit st buffer c ≡ ended h limit st buffer) × (bufferLeft h limit st buffer c ≡ buffer)
+  by-tests st c a b false p q e z = let m = push-malformed st c e in (m .0 ∙ sym (end-malformed st e), m .1)
+  by-tests st c false b true p q e z =
+      let n : st .mark ≡ going → ⊥ = eqb-false (st .mark) going p in
+      let m = push-over st c e n in
+      (m .0 ∙ sym (end-over st e n), m .1)
+  by-tests st c true true true p q e z = let y : _≡_ {A = ℕ} 0 1 = cc in absurd (omega arith)
+  by-tests st c true false true p q e z = absurd (omega (arith, room-of (led-known st e), leb-false (longest h limit) (length buffer) q))
+
+  pub push-ends :
+      (st : Stream) (c : List ℕ) → eqb (st .mark) going && leb (longest h limit) (length buffer) ≡ false →
+      (pushed h limit st buffer c ≡ ended h limit st buffer) × (bufferLeft h limit st buffer c ≡ buffer)
+  push-ends st c z = by-tests st c _ _ _ refl refl refl z
+
+  -- ---- a stream that goes on, by what its held bytes lack
+
+  -- where they lack some, so many are there
+  there : (held : ℕ) → 0 < wanting h limit (take held buffer) → longest h limit ≤ length buffer → held ≤ length buffer
+  there held z b = ⊎-elim (λ l. absurd (omega (arith, none (omega arith)))) (λ l. l) (under (length buffer) held) where
+    none : length buffer ≤ held → wanting h limit (take held buffer) ≡ 0
+    none l = rw (take-all held buffer l) (enough-there h limit buffer b)
+
+  pub lacks-held : (held : ℕ) → longest h limit ≤ length buffer → 0 < wanting h limit (take held buffer) → Holding h limit buffer held
+  lacks-held held b z = record { room = b; within = there held z b; lacks = z }
+
+  -- where they lack none, no calls lead to it
+  last-false : (a b : Bool) → a && (b && false) ≡ false
+  last-false true true = refl
+  last-false true false = refl
+  last-false false b = refl
+
+  pub lacks-none : (held : ℕ) → wanting h limit (take held buffer) ≡ 0 → led h limit (state going held) buffer ≡ false
+  unfolding led
+  lacks-none held z = rw z (last-false (leb (longest h limit) (length buffer)) (leb held (length buffer)))
 
   -- a state that does not go on is over
   by-led : {mark held : ℕ} → Led h limit buffer mark held → (mark ≡ going → ⊥) → IsOver mark

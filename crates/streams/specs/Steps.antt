@@ -3,7 +3,7 @@
 use Prim.Native.Nat.{ℕ, _-_, _≤_, _<_}
 use mathlib.Core.Path.{_≡_}
 use mathlib.Core.Logic.{_⊎_}
-use mathlib.Core.List.{List, []}
+use mathlib.Core.List.{List, [], _++_}
 use lib.ListN.{length, take}
 use Rattle.wire.specs.Answer.{accepted, refused}
 use Rattle.wire.specs.Refusal.{tooLong, wrongSum}
@@ -21,6 +21,19 @@ pub record Holding (h limit : ℕ) (buffer : List ℕ) (held : ℕ) : Type 0 whe
   pub room : longest h limit ≤ length buffer
   pub within : held ≤ length buffer
   pub lacks : 0 < wanting h limit (take held buffer)
+
+-- S4: a cut behind held bytes of the buffer that lacks some with them
+pub record Lacking (h limit : ℕ) (buffer : List ℕ) (held : ℕ) (c : List ℕ) : Type 0 where
+  pub room : longest h limit ≤ length buffer
+  pub within : held ≤ length buffer
+  pub lacks : 0 < wanting h limit (take held buffer ++ c)
+
+-- S4: a cut that brings what held bytes of an unfinished frame lack
+pub record Brought (h limit : ℕ) (buffer : List ℕ) (held lacks : ℕ) (c : List ℕ) : Type 0 where
+  pub holding : Holding h limit buffer held
+  pub some : 0 < held
+  pub wants : lacks ≡ wanting h limit (take held buffer)
+  pub comes : lacks ≤ length c
 
 -- S4: the whole cut is taken, and held bytes are there then
 abbrev pub moreTold : ℕ → ℕ → Told

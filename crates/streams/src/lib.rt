@@ -4,7 +4,7 @@ ghost use Rattle.frame.specs.Framing.{headerWidth, bodyLimit};
 ghost use Rattle.streams.specs.Stream.{newStream, pushed, bufferLeft, ended};
 ghost use Rattle.streams.specs.Paper.{meansPushed};
 use crate::cut::begin;
-use crate::cut::go_on;
+use crate::cut::behind;
 use crate::state::again;
 use crate::state::led;
 use crate::state::stay;
@@ -67,16 +67,13 @@ impl Stream {
     {
         let held = self.held;
         let mark = self.mark;
-        if !led(buffer, held, mark) {
-            return stay(Says::Malformed, held, mark);
-        }
-        if mark != Stream::GOING {
-            return stay(again(held, mark), held, mark);
-        }
-        if held == 0 {
+        if (mark == Stream::GOING) & (held == 0) & (Frame::LIMIT <= buffer.len()) {
             return begin(buffer, cut);
         }
-        go_on(buffer, held, cut)
+        if (mark == Stream::GOING) & (Frame::LIMIT <= buffer.len()) {
+            return behind(buffer, held, cut);
+        }
+        self.end(buffer)
     }
 
     // The stream has ended.

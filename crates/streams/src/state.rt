@@ -1,6 +1,9 @@
 // The states that calls lead to, and what a stream that is over answers.
 ghost use mathlib.Core.Path.{_≡_};
-ghost use Rattle.frame.specs.Framing.{headerWidth, bodyLimit};
+ghost use Prim.Native.Nat.{_≤_};
+ghost use lib.ListN.{length, take};
+ghost use Rattle.frame.specs.Framing.{headerWidth, bodyLimit, longest};
+ghost use Rattle.frame.specs.Wanting.{wanting};
 ghost use Rattle.streams.specs.Stream.{state, led, stay, answerAgain};
 ghost use Rattle.streams.specs.Steps.{IsOver};
 ghost use Rattle.streams.specs.Paper.{meansSays, meansPushed};
@@ -10,6 +13,17 @@ use crate::Stream;
 use frame::Frame;
 use frame::Refusal;
 use wire::answers;
+
+// What held bytes lack; none where there are not so many in the buffer, which takes the longest frame.
+pub(crate) fn lacking(buffer: &[u8], held: usize) -> usize
+    requires { ⌜ longest headerWidth bodyLimit ≤ length (now buffer) ⌝ }
+    ensures { λ r. ⌜ r ≡ wanting headerWidth bodyLimit (take held (now (buffer .entry))) ⌝ }
+{
+    if held <= buffer.len() {
+        return frame::wanting(&buffer[0..held]);
+    }
+    0
+}
 
 // Whether calls lead to a state.
 pub(crate) fn led(buffer: &[u8], held: usize, mark: u32) -> bool

@@ -1,36 +1,17 @@
-use Prim.Native.Nat.{_+_, _≤_}
 use borrow.Author.Needs.{needs}
 use mathlib.Core.Path.{_≡_, ap, sym, _∙_}
 use native.Mathlib.Omega.{arith}
-use mathlib.Core.List.{[]}
-use lib.ListN.{length}
 use denote.Ref.{now}
-use Rattle.wire.specs.Bytes.{splice}
 use Rattle.frame.specs.Framing.{headerWidth, bodyLimit, frameRefusal, refusalValues, meansFramed}
-use Rattle.streams.specs.Stream.{readOn, keptOn}
-use Rattle.streams.specs.Steps.{moreTold}
-use Rattle.streams.proofs.Pushes.{begin-frame, begin-more, begin-stop}
+use Rattle.streams.proofs.Pushes.{begin-frame, none-lacking, begin-stop}
 use Rattle.streams.proofs.cut.begin.Statement.{statement}
 use Rattle.streams.proofs.cut.begin.Tie as tie
 
--- bytes are missing
-lacking :
-    (t : tie.Then1) →
-    let a = t .before .before .before .before .before .before .before .before .args in
-    (0 + length (now (a .cut)) ≤ length (now (a .buffer)))
-    × (moreTold (length (now (a .cut))) (length (now (a .cut))) ≡ readOn headerWidth bodyLimit [] (now (a .cut)))
-    × (splice (now (a .buffer)) 0 (now (a .cut)) ≡ keptOn headerWidth bodyLimit [] (now (a .cut)) (now (a .buffer)))
-lacking t =
+keep-all-requires : tie.Need-keep-all-requires
+keep-all-requires c κs =
+    let t = c .before in
     let b = t .before .before .before .before .before .before .before .before in
-    begin-more headerWidth bodyLimit (now (b .args .cut)) (now (b .args .buffer)) (b .pre) (rw (t .before .wanting .ensures) at (t .if1 .taken))
-
-keep-requires : tie.Need-keep-requires
-keep-requires c κs = lacking (c .before) .0
-
-returns : tie.Need-returns
-returns c =
-    let p = lacking (c .before .before .before .before .before) in
-    (c .more .ensures ∙ p .1, c .before .before .before .keep .ensures ∙ p .2)
+    none-lacking headerWidth bodyLimit (now (b .args .buffer)) (now (b .args .cut)) (b .pre) (rw (t .before .wanting .ensures) at (t .if1 .taken))
 
 returns-2 : tie.Need-returns-2
 returns-2 c =
@@ -55,10 +36,9 @@ begin-spec =
     (λ c. search needs)
     (λ c. search needs)
     (λ c κs. search needs)
-    keep-requires
-    (λ c κs. search needs)
+    keep-all-requires
     (λ c. search needs)
-    returns
+    (λ c. search needs)
     (λ c κs. search needs)
     (λ c κs. search needs)
     returns-2

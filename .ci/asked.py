@@ -1,0 +1,65 @@
+"""What an archive asks of its host, held to what header and README say: the stack of each call, and the functions that it links.
+
+    python3 .ci/asked.py ARCHIVE [OBJDUMP]
+
+A call's stack is the frames of all functions along its calls; what the host's own take is not counted. A call by a pointer, a
+call that goes round and a frame of no fixed size fail: nothing could be added up.
+"""
+
+import re
+import subprocess
+import sys
+
+MOST = {"orizhgum_set_up": 5000}
+"""The header's figures, in bytes; 1,000 for every call that is not here."""
+
+HOST = {"memcpy", "memmove", "memset"}
+
+WORD = 8
+"""The bytes of a return address, and of what a push takes."""
+
+
+def functions(archive, objdump):
+    """Each function's own frame, and the names that it calls."""
+    words = [objdump, "-dr", "--no-show-raw-insn", archive]
+    name, frames, calls = None, {}, {}
+    for line in subprocess.run(words, capture_output=True, text=True, check=True).stdout.splitlines():
+        if begins := re.match(r"[0-9a-f]+ <(.+)>:$", line):
+            name = begins[1]
+            frames[name], calls[name] = WORD, set()
+        elif re.search(r"\tpush\s", line):
+            frames[name] += WORD
+        elif taken := re.search(r"\tsub\s+\$0x([0-9a-f]+),%rsp", line):
+            frames[name] += int(taken[1], 16)
+        elif called := re.search(r"R_X86_64_PLT32\s+(?:\.text\.)?(\S+)-0x4$", line):
+            calls[name].add(called[1])
+        elif re.search(r"\tcall\s+\*|\tsub\s+%\w+,%rsp", line):
+            sys.exit(f"gate: {name} has a call by a pointer, or a frame of no fixed size: {line.strip()}")
+    return frames, calls
+
+
+def stack(name, frames, calls, above=()):
+    """What a function and those below it take."""
+    if name in above:
+        sys.exit(f"gate: {name} is called from itself")
+    below = [stack(call, frames, calls, (*above, name)) for call in calls.get(name, ())]
+    return frames.get(name, 0) + max(below, default=0)
+
+
+def main(archive, objdump="objdump"):
+    frames, calls = functions(archive, objdump)
+    linked = set().union(*calls.values()) - set(frames)
+    if linked - HOST:
+        sys.exit(f"gate: {archive} links {', '.join(sorted(linked - HOST))}")
+    taken = {name: stack(name, frames, calls) for name in frames if name.startswith("orizhgum_")}
+    if not taken:
+        sys.exit(f"gate: {archive} has no calls")
+    for name, most in ((name, MOST.get(name, 1000)) for name in taken):
+        if taken[name] > most:
+            sys.exit(f"gate: {name} takes {taken[name]} bytes of the stack, and {most} are said")
+    others = [name for name in taken if name not in MOST]
+    name = max(others, key=taken.get)
+    print(f"{len(taken)} calls take at most {taken[name]} bytes of the stack ({name}), and link {', '.join(sorted(linked))}")
+
+
+main(*sys.argv[1:])
