@@ -244,13 +244,13 @@ module _ (h limit : ℕ) (buffer : List ℕ) (held lacks : ℕ) (c : List ℕ) (
   front-reached =
       omega (arith, onward-to h limit u some g (k .lacks) (omega (arith, length-some, q .wants)), reach-within h limit front, length-front, length-u, q .wants)
 
-  pub first-room : held + lacks ≤ length buffer
+  first-room : held + lacks ≤ length buffer
   first-room = omega (arith, front-reached, reach-limit h limit front, k .room)
 
-  pub first-fits : held + length some ≤ length buffer
+  first-fits : held + length some ≤ length buffer
   first-fits = omega (arith, length-some, first-room)
 
-  pub first-length : length first ≡ length buffer
+  first-length : length first ≡ length buffer
   first-length = length-splice buffer held some first-fits
 
   -- the buffer begins with it

@@ -6,7 +6,7 @@ use mathlib.Core.List.{List, _++_}
 use borrow.Author.Needs.{needs}
 use native.Mathlib.Omega.{arith}
 use lib.Dec.{lit≤}
-use lib.ListN.{length, take, drop}
+use lib.ListN.{length, take}
 use denote.Ref.{now}
 use Rattle.wire.specs.Bytes.{splice}
 use Rattle.frame.specs.Framing.{headerWidth, bodyLimit}
