@@ -10,8 +10,9 @@ import re
 import subprocess
 import sys
 
-MOST = {"orizhgum_set_up": 5000}
-"""The header's figures, in bytes; 1,000 for every call that is not here."""
+SET_UP = {"orizhgum_set_up": 5000}
+OTHERS = 1000
+"""The header's figures, in bytes: of the set-up, which answers with a whole tracker, and of every other call."""
 
 HOST = {"memcpy", "memmove", "memset"}
 
@@ -54,10 +55,10 @@ def main(archive, objdump="objdump"):
     taken = {name: stack(name, frames, calls) for name in frames if name.startswith("orizhgum_")}
     if not taken:
         sys.exit(f"gate: {archive} has no calls")
-    for name, most in ((name, MOST.get(name, 1000)) for name in taken):
+    for name, most in ((name, SET_UP.get(name, OTHERS)) for name in taken):
         if taken[name] > most:
             sys.exit(f"gate: {name} takes {taken[name]} bytes of the stack, and {most} are said")
-    others = [name for name in taken if name not in MOST]
+    others = [name for name in taken if name not in SET_UP]
     name = max(others, key=taken.get)
     print(f"{len(taken)} calls take at most {taken[name]} bytes of the stack ({name}), and link {', '.join(sorted(linked))}")
 
