@@ -132,7 +132,7 @@ impl Says {
     // The prices by which `xe` and `xf` say that there is no limit.
     pub const NO_UPPER_LIMIT: i64 = 9_999_999_999_999;
 
-    pub const NO_LOWER_LIMIT: i64 = -9_999_999_999_999;
+    pub const NO_LOWER_LIMIT: i64 = -Says::NO_UPPER_LIMIT;
 }
 
 // A price, unless it is the mark that there is no limit.

@@ -8,18 +8,18 @@ use native.Mathlib.Omega.{arith}
 use borrow.Author.Tests.{le-leb, lt-leb}
 use lib.ListN.{length, take, drop, set}
 use lib.Seq.{set-split, drop-at, length-take-le}
-use Rattle.text.specs.Text.{glyph, decimals, offsetBehind}
+use Rattle.text.specs.Text.{glyph, glyphs, offsetBehind}
 
 drop-set : (l : List ℕ) (i a : ℕ) → i < length l → drop i (set l i a) ≡ a ∷ drop (suc i) l
 drop-set l i a h = rw (set-split l i a h) (drop-at (take i l) (a ∷ drop (suc i) l) i (length-take-le i l (omega arith)))
 
-pub last-digit : (k v : ℕ) → v ≤ 9 → decimals k v ≡ glyph v ∷ []
-unfolding decimals
+pub last-digit : (k v : ℕ) → v ≤ 9 → glyphs k v ≡ glyph v ∷ []
+unfolding glyphs
 last-digit zero v h = refl
 last-digit (suc k) v h = rw (le-leb v 9 h)
 
-more-digits : (k v : ℕ) → 9 < v → decimals (suc k) v ≡ decimals k (v / 10) ++ (glyph (v % 10) ∷ [])
-unfolding decimals
+more-digits : (k v : ℕ) → 9 < v → glyphs (suc k) v ≡ glyphs k (v / 10) ++ (glyph (v % 10) ∷ [])
+unfolding glyphs
 more-digits k v h = rw (lt-leb v 9 h)
 
 -- a number of two digits or more wants two places
@@ -35,17 +35,17 @@ fewer-digits (suc i) v h l = let e : suc i - 1 ≡ i = omega arith in rw e (omeg
 -- i places are left for the digits of a number, and behind them stand the rest
 pub one-more :
     (l : List ℕ) (i v : ℕ) → 9 < v → v < 10 ^ i → i ≤ length l →
-    decimals (i - 1) v ++ drop i l ≡ decimals (i - 1 - 1) (v / 10) ++ drop (i - 1) (set l (i - 1) (48 + v % 10))
+    glyphs (i - 1) v ++ drop i l ≡ glyphs (i - 1 - 1) (v / 10) ++ drop (i - 1) (set l (i - 1) (48 + v % 10))
 one-more l i v h m n =
     let t = two-places i v h m in
     let e : i - 1 ≡ suc (i - 1 - 1) = omega arith in
     let f : suc (i - 1) ≡ i = omega arith in
-    ap (λ (k : ℕ). decimals k v ++ drop i l) e
+    ap (λ (k : ℕ). glyphs k v ++ drop i l) e
     ∙ rw (more-digits (i - 1 - 1) v h, append-assoc, drop-set l (i - 1) (48 + v % 10) (omega arith), f)
 
 pub the-last :
     (l : List ℕ) (i v : ℕ) → v ≤ 9 → 0 < i → i ≤ length l →
-    decimals (i - 1) v ++ drop i l ≡ drop (i - 1) (set l (i - 1) (48 + v))
+    glyphs (i - 1) v ++ drop i l ≡ drop (i - 1) (set l (i - 1) (48 + v))
 the-last l i v h m n =
     let f : suc (i - 1) ≡ i = omega arith in
     rw (last-digit (i - 1) v h, drop-set l (i - 1) (48 + v) (omega arith), f)

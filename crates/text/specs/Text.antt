@@ -15,13 +15,13 @@ abbrev pub glyph : ℕ → ℕ
 glyph d = 48 + d
 
 -- at most k + 1 decimal digits of a number, the first the highest, no zeros in front
-unfoldable pub decimals : ℕ → ℕ → List ℕ
-decimals zero v = glyph v ∷ []
-decimals (suc k) v = cond (leb v 9) (glyph v ∷ []) (decimals k (v / 10) ++ (glyph (v % 10) ∷ []))
+unfoldable pub glyphs : ℕ → ℕ → List ℕ
+glyphs zero v = glyph v ∷ []
+glyphs (suc k) v = cond (leb v 9) (glyph v ∷ []) (glyphs k (v / 10) ++ (glyph (v % 10) ∷ []))
 
 -- O1: a number of 64 bits in decimal: it has at most 20 digits
 abbrev pub decimalOf : ℕ → List ℕ
-decimalOf v = decimals 19 v
+decimalOf v = glyphs 19 v
 
 -- the offset behind some bytes at an offset of the output where they fit; else that offset
 unfoldable pub offsetBehind : List ℕ → ℕ → List ℕ → ℕ

@@ -10,14 +10,14 @@ use lib.ListN.{length, take, drop, set, length-drop, length-set}
 use lib.Seq.{take-all}
 use denote.Ref.{now}
 use Rattle.wire.specs.Bytes.{putAt}
-use Rattle.text.specs.Text.{decimals, decimalOf, offsetBehind}
+use Rattle.text.specs.Text.{glyphs, decimalOf, offsetBehind}
 use Rattle.text.proofs.Decimals.{two-places, fewer-digits, one-more, the-last}
 use Rattle.text.proofs.decimal.Statement.{statement}
 use Rattle.text.proofs.decimal.Tie as tie
 
 abbrev Inv-loop : tie.InvT-loop
 Inv-loop out at v digits₀ i₀ rest₀ digits i rest =
-    (length digits ≡ 20) × (0 < i) × (i ≤ 20) × (rest < 10 ^ i) × (decimals (i - 1) rest ++ drop i digits ≡ decimalOf v)
+    (length digits ≡ 20) × (0 < i) × (i ≤ 20) × (rest < 10 ^ i) × (glyphs (i - 1) rest ++ drop i digits ≡ decimalOf v)
 
 abbrev μ-loop : tie.MeasureT-loop
 μ-loop out at v digits₀ i₀ rest₀ digits i rest = i
