@@ -1,5 +1,6 @@
-// Cases that are run: what the writer refuses, with the output that it leaves; a full gap table; requests.
+// Cases that are run: what the writer refuses, with the output that it leaves; a full gap table; requests; decimals.
 mod asking;
+mod decimals;
 mod refused;
 mod said;
 mod table;
@@ -9,5 +10,6 @@ fn main() {
     let a = refused::cases(&mut lines, 0);
     let b = table::cases(&mut lines, a);
     let c = asking::cases(&mut lines, b);
-    window::flush(&lines, c, 4097);
+    let d = decimals::cases(&mut lines, c);
+    window::flush(&lines, d, 4097);
 }

@@ -1,4 +1,4 @@
--- The kinds of fields by name, the width and the range of each.
+-- The kinds of fields by name, the width, the decimals and the range of each.
 -- Assumes nothing.
 use Prim.Native.Nat.{ℕ, _/_, _%_}
 use mathlib.Core.Bool.{Bool, true, false, _&&_, _||_}
@@ -122,6 +122,38 @@ abbrev pub valueIn : Form → ℕ → ℤ
 valueIn (unsigned w) v = pos v
 valueIn signed v = toZ w64 v
 valueIn (written t) v = pos v
+
+-- ---- Decimals
+
+-- N1, N2, N3, N4, N11: how many decimals a kind has
+abbrev pub decimals : Kind → ℕ
+decimals orderPrice = 4
+decimals tradePrice = 4
+decimals previousClose = 4
+decimals entryPrice = 4
+decimals quantity = 2
+decimals amount = 4
+decimals tradeCount = 0
+decimals orderCount = 0
+decimals lastNumber = 0
+decimals firstNumber = 0
+decimals bidNumber = 0
+decimals offerNumber = 0
+decimals number = 0
+decimals yesNo = 0
+decimals resendType = 0
+decimals status = 0
+decimals side = 0
+decimals orderType = 0
+decimals execution = 0
+decimals time = 0
+decimals channel = 0
+decimals entryType = 0
+decimals level = 0
+decimals groupCount = 0
+decimals stockNumber = 0
+decimals switchType = 0
+decimals (text t) = 0
 
 -- ---- Ranges of fields
 

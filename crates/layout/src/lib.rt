@@ -1,6 +1,7 @@
-// Widths, offsets and sizes of the ten layouts, the ranges of their fields, and the groups behind a count. Every public function is total.
+// Widths, offsets and sizes of the ten layouts, the decimals and ranges of their fields, and the groups behind a count. Every public function is total.
 pub mod channel_heartbeat;
 pub mod common;
+pub mod decimals;
 pub mod entry;
 mod group;
 pub mod heartbeat;

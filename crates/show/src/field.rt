@@ -2,6 +2,7 @@
 use crate::named;
 use crate::named::Text;
 use crate::value;
+use layout::decimals;
 use record::Record;
 
 // The field of a mark for a text says which text.
@@ -39,14 +40,17 @@ fn text_in(kind: u32, which: i64, texts: &[u8]) -> &[u8] {
     named::text_of(kind, meant(which), texts)
 }
 
-// N is a number, P a price or an amount, Q a quantity, size or volume, T a time, C a character, E an entry's type, S a text.
+// N is a number, P a price of an order or a trade or a previous close, L an entry's price, A an amount, Q a quantity, size or volume,
+// T a time, C a character, E an entry's type, S a text.
 pub fn write(out: &mut [u8], at: usize, mark: u8, z: i64, kind: u32, texts: &[u8]) -> usize {
     let bits = wire::unsigned(z);
     match mark {
-        b'N' => value::number(out, at, bits, 1, b""),
-        b'P' => value::number(out, at, bits, 10000, b".0000"),
-        b'Q' => value::number(out, at, bits, 100, b".00"),
-        b'T' => value::digits(out, at, b"0000-00-00 00:00:00.000", bits),
+        b'N' => value::number(out, at, bits, 0),
+        b'P' => value::number(out, at, bits, decimals::PRICE),
+        b'L' => value::number(out, at, bits, decimals::ENTRY_PRICE),
+        b'A' => value::number(out, at, bits, decimals::AMOUNT),
+        b'Q' => value::number(out, at, bits, decimals::QUANTITY),
+        b'T' => value::time(out, at, bits),
         b'C' => value::character(out, at, value::byte(bits)),
         b'E' => value::text(out, at, &[value::byte(bits / 256), value::byte(bits)]),
         b'S' => value::text(out, at, text_in(kind, z, texts)),

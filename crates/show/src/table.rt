@@ -79,20 +79,20 @@ pub fn lay(table: &mut [u8]) {
         table,
         0,
         br#"
-  entry N: type "E", price P, size Q, level N, order count N
+  entry N: type "E", price L, size Q, level N, order count N
 N order: channel N, number N, stream "S", security "S", source "S", price P, quantity Q, side C, time T, order type C
 N trade: channel N, number N, stream "S", bid number N, offer number N, security "S", source "S", price P, quantity Q, execution type C, time T
   entry N: type "E", price -, size Q, level N, order count N
-  entry N: type "E", price P
+  entry N: type "E", price L
   entry N: type "E", size Q
-  entry N: type "E", price P, size Q
+  entry N: type "E", price L, size Q
   entry N: type "E", no limit
   entry N: type "E", unknown
 , quantities Q
  Q
-N snapshot: time T, channel N, stream "S", security "S", source "S", phase "S", previous close P, trade count N, volume Q, amount P, count N
-N index: time T, channel N, stream "S", security "S", source "S", phase "S", previous close P, trade count N, volume Q, amount P, count N
-N volume index: time T, channel N, stream "S", security "S", source "S", phase "S", previous close P, trade count N, volume Q, amount P, stock number N
+N snapshot: time T, channel N, stream "S", security "S", source "S", phase "S", previous close P, trade count N, volume Q, amount A, count N
+N index: time T, channel N, stream "S", security "S", source "S", phase "S", previous close P, trade count N, volume Q, amount A, count N
+N volume index: time T, channel N, stream "S", security "S", source "S", phase "S", previous close P, trade count N, volume Q, amount A, stock number N
 N security status: time T, channel N, security "S", source "S", financial status "S", count N
 N statistics: time T, channel N, count N
 N resend: resend type N, channel N, first N, last N, news id "S", status N, text "S"

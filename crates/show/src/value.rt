@@ -1,5 +1,5 @@
 // Values as text: numbers with their decimals, times, characters and texts.
-ghost use Prim.Native.Nat.{_≤_, _<_};
+ghost use Prim.Native.Nat.{_≤_};
 ghost use lib.ListN.{length};
 
 // The sign of a number, where it has one, and the number without it.
@@ -17,37 +17,50 @@ fn magnitude(bits: u64) -> u64 {
     0xffff_ffff_ffff_ffff - bits + 1
 }
 
-// The most bytes of a picture.
-const PICTURE: usize = 24;
-
-// A picture, with the last digits of a number where it has zeros.
-pub fn digits(out: &mut [u8], at: usize, picture: &[u8], v: u64) -> usize {
-    let n = picture.len();
-    let mut shown = [0u8; PICTURE];
-    if PICTURE < n {
-        return at;
-    }
-    wire::copy(&mut shown, 0, picture);
+// A number's last digits, in the places where the first n bytes of a picture have zeros; what is left of the number.
+fn lay(picture: &mut [u8], n: usize, v: u64) -> u64
+    requires { ⌜ n ≤ length (now picture) ⌝ }
+{
     let mut rest = v;
     let mut i = n;
     while 0 < i {
         i -= 1;
-        if shown[i] == b'0' {
-            shown[i] = (48 + rest % 10) as u8;
+        if picture[i] == b'0' {
+            picture[i] = (48 + rest % 10) as u8;
             rest /= 10;
         }
     }
-    text::word(out, at, &shown[0..n])
+    rest
 }
 
-// A number of units, and behind it the picture of its decimals.
-pub fn number(out: &mut [u8], at: usize, bits: u64, unit: u64, decimals: &[u8]) -> usize
-    requires { ⌜ 0 < unit ⌝ }
+// The most decimals of a number.
+const DECIMALS: usize = 18;
+
+// A number with so many decimals.
+pub fn number(out: &mut [u8], at: usize, bits: u64, decimals: usize) -> usize
+    requires { ⌜ decimals ≤ 18 ⌝ }
 {
-    let v = magnitude(bits);
+    let mut behind = [b'0'; 1 + DECIMALS];
+    behind[0] = b'.';
+    let n = 1 + decimals;
+    let whole = lay(&mut behind, n, magnitude(bits));
     let a = sign(out, at, bits);
-    let b = text::decimal(out, a, v / unit);
-    digits(out, b, decimals, v)
+    let b = text::decimal(out, a, whole);
+    if decimals == 0 {
+        return b;
+    }
+    text::word(out, b, &behind[0..n])
+}
+
+// The bytes of a time.
+const TIME: usize = 23;
+
+// The digits of a time, parted.
+pub fn time(out: &mut [u8], at: usize, bits: u64) -> usize {
+    let mut picture = [0u8; TIME];
+    wire::copy(&mut picture, 0, b"0000-00-00 00:00:00.000");
+    lay(&mut picture, TIME, bits);
+    text::word(out, at, &picture)
 }
 
 // The last byte of a number.
