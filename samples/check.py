@@ -6,6 +6,7 @@ It shares nothing with the modules that build the files and their text.
 import struct
 
 PRICE = (-9_999_999_999_999, 9_999_999_999_999)
+ENTRY_PRICE = (-9_999_999_999_999, 9_999_999_999_999)
 QUANTITY = (0, 999_999_999_999_999)
 AMOUNT = (0, 999_999_999_999_999_999)
 NATURAL = (0, 9_223_372_036_854_775_807)
@@ -28,8 +29,9 @@ LAYOUTS = {
     390013: (">qH8s4s8sI", [TIME, FREE, FREE, FREE, FREE, FREE],
              ">HH", [FREE, YES_NO]),
     300111: (COMMON + "I", COMMON_RULES + [FREE], ">2sqqHqI",
-             [FREE, PRICE, QUANTITY, FREE, NATURAL, FREE]),
-    309011: (COMMON + "I", COMMON_RULES + [FREE], ">2sq", [FREE, PRICE]),
+             [FREE, ENTRY_PRICE, QUANTITY, FREE, NATURAL, FREE]),
+    309011: (COMMON + "I", COMMON_RULES + [FREE], ">2sq",
+             [FREE, ENTRY_PRICE]),
     309111: (COMMON + "I", COMMON_RULES + [FREE], None, None),
     300192: (">Hq3s8s4sqqcqc",
              [FREE, POSITIVE, FREE, FREE, FREE, PRICE, QUANTITY, b"12GF",

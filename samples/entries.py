@@ -2,8 +2,12 @@
 
 import words
 from cases import Ending, File, bad, entry, good, point
-from ranges import (AT_LEAST_0, COUNT_HIGHEST, FREE_2, HIGHEST, PRICE,
-                    QUANTITY, common, counts, group_ends, lengths)
+from ranges import (AT_LEAST_0, COUNT_HIGHEST, ENTRY_PRICE, ENTRY_PRICE_LIMIT,
+                    FREE_2, HIGHEST, QUANTITY, common, counts, group_ends,
+                    lengths)
+
+# One beyond each end of an entry price's range.
+BEYOND = (ENTRY_PRICE_LIMIT + 1, -ENTRY_PRICE_LIMIT - 1)
 
 
 def snapshot():
@@ -20,7 +24,7 @@ def snapshot():
     cases += counts(name, group, (1 << 27, (1 << 27) + 1, 1 << 31))
     cases += shown_counts(name)
     cases += common(name)
-    cases += group_ends(name, PRICE, lambda each: group(price=each))
+    cases += group_ends(name, ENTRY_PRICE, lambda each: group(price=each))
     cases += group_ends(name, QUANTITY, lambda each: group(size=each))
     cases += group_ends(name, FREE_2, lambda each: group(level=each))
     cases += group_ends(name, AT_LEAST_0, lambda each: group(order_count=each))
@@ -107,7 +111,7 @@ def every_type(price, level, size, more):
 
 def limits():
     """`xe` and `xf` at, beside and with the other's mark."""
-    up, down = 9_999_999_999_999, -9_999_999_999_999
+    up, down = words.NO_UPPER_LIMIT, words.NO_LOWER_LIMIT
     return [
         said("no limit", entry("xe", up)),
         said("price", entry("xe", up - 1)),
@@ -137,7 +141,7 @@ def meaningless():
     """Fields without meaning for an entry still obey their ranges."""
     name, cases = "snapshot", []
     for kind in ("0", "1", "2", "xe", "xg", "x3", "xz", "\x00\x00"):
-        for each in (10_000_000_000_000, -10_000_000_000_000):
+        for each in BEYOND:
             cases.append(bad(5, name, [entry(kind, each)]))
         for each in (-1, 1_000_000_000_000_000):
             cases.append(bad(5, name, [entry(kind, 0, each)]))
@@ -191,17 +195,17 @@ def index():
     cases = lengths(name) + lengths(name, [group(), group(kind="xa")])
     # 10k is 4 more than 4 GiB at 429,496,730.
     cases += counts(name, group, (429_496_730, 858_993_460))
-    for price in (105000000, 0, -105000000, 9_999_999_999_999,
-                  -9_999_999_999_999):
+    for price in (105000000, 0, -105000000, ENTRY_PRICE_LIMIT,
+                  -ENTRY_PRICE_LIMIT):
         cases.append(good(name, [pointed("price", point(each, price))
                                  for each in known]
                           + [pointed("unknown", point(each, price))
                              for each in free]))
     cases += common(name)
-    cases += group_ends(name, PRICE, group)
+    cases += group_ends(name, ENTRY_PRICE, group)
     cases += [bad(5, name, [point(each, price)])
               for each in ("3", "xd", "0", "\x00\x00")
-              for price in (10_000_000_000_000, -10_000_000_000_000)]
-    cases += [bad(4, name, [group(10_000_000_000_000), group()], short=1),
-              good(name, [group(), group(10_000_000_000_000)], count=1)]
+              for price in BEYOND]
+    cases += [bad(4, name, [group(BEYOND[0]), group()], short=1),
+              good(name, [group(), group(BEYOND[0])], count=1)]
     return File("index", cases)

@@ -4,6 +4,7 @@ import hashlib
 
 import wire
 from cases import Ending, File, bad, good, opaque, unlisted
+from ranges import PRICE_LIMIT
 
 LARGEST = 16_384
 WINDOW = 65_536
@@ -152,7 +153,7 @@ def files():
         File("unjudged", [
             bad(4, "channel heartbeat", short=1),
             bad(5, "channel heartbeat", end=2),
-            bad(5, "order", price=10_000_000_000_000),
+            bad(5, "order", price=PRICE_LIMIT + 1),
             bad(4, "snapshot", count=4_294_967_295)]),
         File("type_max", [
             unlisted(4_294_967_295, b"\xff" * 300), unlisted(0),

@@ -1,6 +1,7 @@
 """A small capture of an opening auction."""
 
 from cases import File, category, entry, good, point, switch, unlisted
+from words import NO_UPPER_LIMIT
 
 # Market status, which is left to the host: a time, a channel, a market.
 MARKET_STATUS = 390019
@@ -82,7 +83,7 @@ def auction():
             entry("xj", -12500),
             entry("x3", 123400, 120000),
             entry("x4", 123538, 65000),
-            entry("xe", 9_999_999_999_999),
+            entry("xe", NO_UPPER_LIMIT),
             entry("xf", 109900),
             entry("xg", 0, 1_250_000),
             entry("xz", 77, 88),

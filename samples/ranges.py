@@ -7,9 +7,17 @@ HIGHEST = 9_223_372_036_854_775_807
 LOWEST = -9_223_372_036_854_775_808
 COUNT_HIGHEST = 4_294_967_295
 
+# Prices lie within plus and minus these: an order's, a trade's and a previous
+# close, then an entry's.
+PRICE_LIMIT = 9_999_999_999_999
+ENTRY_PRICE_LIMIT = 9_999_999_999_999
+
 # Each range's two ends, then the numbers beyond them: (held, broken).
-PRICE = ((0, 1, -1, 4_294_967_296, 9_999_999_999_999, -9_999_999_999_999),
-         (10_000_000_000_000, -10_000_000_000_000, HIGHEST, LOWEST))
+PRICE = ((0, 1, -1, 4_294_967_296, PRICE_LIMIT, -PRICE_LIMIT),
+         (PRICE_LIMIT + 1, -PRICE_LIMIT - 1, HIGHEST, LOWEST))
+ENTRY_PRICE = ((0, 1, -1, 4_294_967_296, ENTRY_PRICE_LIMIT,
+                -ENTRY_PRICE_LIMIT),
+               (ENTRY_PRICE_LIMIT + 1, -ENTRY_PRICE_LIMIT - 1, HIGHEST, LOWEST))
 QUANTITY = ((0, 1, 99, 4_294_967_296, 999_999_999_999_999),
             (-1, 1_000_000_000_000_000, HIGHEST, LOWEST))
 AMOUNT = ((0, 1, 9_999, 999_999_999_999_999_999),
@@ -90,7 +98,7 @@ def common(name):
         cases += ends(name, field, numbers)
     # 4 is judged before 5.
     return cases + [
-        bad(4, name, previous_close=10_000_000_000_000, short=1),
+        bad(4, name, previous_close=PRICE_LIMIT + 1, short=1),
         bad(4, name, time=-1, volume=-1, short=1),
         # A tail has no range.
         good(name, tail=wire.number(8, -1) * 3)]

@@ -8,6 +8,9 @@ import struct
 
 CHANNELS = (2011, 2012)
 
+ENTRY_PRICE_DECIMALS = 4
+SIZE_DECIMALS = 2
+
 
 def decimal(number, decimals):
     """A number with so many decimals."""
@@ -26,8 +29,9 @@ def levels(body):
         place += 32 + 8 * shown
         if kind in (b"0 ", b"1 "):
             side = "bid" if kind == b"0 " else "offer"
-            quoted = decimal(price, 4) if price else "-"
-            yield f"  {side} {level}: {quoted} {decimal(size, 2)}"
+            quoted = decimal(price, ENTRY_PRICE_DECIMALS) if price else "-"
+            held = decimal(size, SIZE_DECIMALS)
+            yield f"  {side} {level}: {quoted} {held}"
 
 
 class Channel:

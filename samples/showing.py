@@ -4,8 +4,8 @@ import entries
 import wire
 from cases import Ending, File, bad, category, entry, good, switch, unlisted
 from ranges import (AT_LEAST_0, AT_LEAST_1, FREE_2, FREE_4, HIGHEST, LOWEST,
-                    PRICE, QUANTITY, TEXT_16, TEXT_3, TEXT_4, TEXT_8, YES_NO,
-                    common, counts, ends, group_ends, lengths)
+                    PRICE, PRICE_LIMIT, QUANTITY, TEXT_16, TEXT_3, TEXT_4,
+                    TEXT_8, YES_NO, common, counts, ends, group_ends, lengths)
 
 
 def heartbeats():
@@ -127,7 +127,7 @@ def order():
         cases += ends(name, field, numbers)
     cases += characters(name, "side", "12GF", "034EHgfU \x00\x01\x02\xb1\xff")
     cases += characters(name, "order_type", "12U", "034TVuGF \x00\x01\x02\xff")
-    cases += [bad(4, name, price=10_000_000_000_000, short=1),
+    cases += [bad(4, name, price=PRICE_LIMIT + 1, short=1),
               bad(4, name, number=0, side=" ", short=1),
               bad(5, name, number=0, side=" "),
               good(name, tail=b"\xff" * 15)]
@@ -146,7 +146,7 @@ def trade():
         cases += ends(name, field, numbers)
     cases += characters(name, "execution_type", "4F",
                         "0135EGf12U \x00\x04\xb4\xff")
-    cases += [bad(4, name, price=10_000_000_000_000, short=1),
+    cases += [bad(4, name, price=PRICE_LIMIT + 1, short=1),
               bad(4, name, number=0, execution_type=" ", short=8),
               # An order's 51 bytes are too few for a trade.
               bad(4, name, short=15)]

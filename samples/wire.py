@@ -13,6 +13,7 @@ WIDTHS = {
     "phase": (8, "characters"),
     "financial status": (8, "characters"),
     "price": (8, "signed"),
+    "entry price": (8, "signed"),
     "quantity": (8, "signed"),
     "amount": (8, "signed"),
     "trade count": (8, "signed"),
@@ -123,14 +124,14 @@ GROUPS = {
     ),
     "snapshot": (
         ("type", "entry type"),
-        ("price", "price"),
+        ("price", "entry price"),
         ("size", "quantity"),
         ("level", "level"),
         ("order count", "order count"),
     ),
     "index": (
         ("type", "entry type"),
-        ("price", "price"),
+        ("price", "entry price"),
     ),
 }
 

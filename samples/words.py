@@ -2,8 +2,12 @@
 
 import wire
 
+# The marks: `xe` and `xf` holding these say no limit.
 NO_UPPER_LIMIT = 9_999_999_999_999
 NO_LOWER_LIMIT = -9_999_999_999_999
+
+# The fields with decimals, by their width's name, and how many.
+DECIMALS = {"price": 4, "entry price": 4, "quantity": 2, "amount": 4}
 
 # What an entry says, by its two type characters.
 LEVELS = ("0 ", "1 ")
@@ -35,10 +39,8 @@ def quoted(value):
 
 def shown(kind, value):
     """One field's value, by its width's name."""
-    if kind == "price" or kind == "amount":
-        return decimals(4, value)
-    if kind == "quantity":
-        return decimals(2, value)
+    if kind in DECIMALS:
+        return decimals(DECIMALS[kind], value)
     if kind == "time":
         return clock(value)
     width, held = wire.WIDTHS[kind]
@@ -74,8 +76,8 @@ def says(name, entry):
 def entry_line(name, place, entry):
     """One entry's line."""
     said = says(name, entry)
-    price = "price " + decimals(4, entry["price"])
-    size = "size " + decimals(2, entry.get("size", 0))
+    price = "price " + shown("entry price", entry["price"])
+    size = "size " + shown("quantity", entry.get("size", 0))
     behind = f"level {entry.get('level')}, order count {entry.get('order count')}"
     content = {
         "level": f"{price}, {size}, {behind}",
@@ -89,7 +91,7 @@ def entry_line(name, place, entry):
     line = f"  entry {place}: type {quoted(entry['type'])}, {content}"
     if entry.get("quantities"):
         line += ", quantities " + " ".join(
-            decimals(2, each) for each in entry["quantities"])
+            shown("quantity", each) for each in entry["quantities"])
     return line
 
 

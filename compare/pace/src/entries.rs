@@ -4,7 +4,7 @@ use crate::calls::{SAYS_LEVEL, SAYS_LEVEL_WITHOUT_PRICE, SAYS_NO_LIMIT, SAYS_PRI
 use crate::calls::{SAYS_PRICE_AND_SIZE, SAYS_SIZE, SAYS_UNKNOWN};
 use crate::inputs::snapshot_body;
 use crate::race::{same, Bench, Row};
-use crate::ranges::{entry_in, half, int, price, word, PRICE};
+use crate::ranges::{entry_in, entry_price, half, int, word, NO_LOWER_LIMIT, NO_UPPER_LIMIT};
 use std::hint::black_box;
 
 /// Stands in a lent price: an entry that says none leaves it.
@@ -34,8 +34,8 @@ fn told(e: &[u8]) -> Told {
         b"0 " | b"1 " => (level(SAYS_LEVEL), Some(p)),
         b"2 " | b"4 " | b"7 " | b"8 " | b"9 " | b"x1" | b"x2" | b"x5" | b"x6" | b"x7" | b"x8"
         | b"x9" | b"xj" | b"xk" => (bare(SAYS_PRICE, 0), Some(p)),
-        b"xe" if p == PRICE => (bare(SAYS_NO_LIMIT, 0), None),
-        b"xf" if p == -PRICE => (bare(SAYS_NO_LIMIT, 0), None),
+        b"xe" if p == NO_UPPER_LIMIT => (bare(SAYS_NO_LIMIT, 0), None),
+        b"xf" if p == NO_LOWER_LIMIT => (bare(SAYS_NO_LIMIT, 0), None),
         b"xe" | b"xf" => (bare(SAYS_PRICE, 0), Some(p)),
         b"xg" => (bare(SAYS_SIZE, size), None),
         b"x3" | b"x4" => (bare(SAYS_PRICE_AND_SIZE, size), Some(p)),
@@ -81,7 +81,7 @@ fn of_index(offset: usize, s: &[u8]) -> Result<(Told, usize), u32> {
         return Err(4);
     }
     let e = &s[offset..offset + 10];
-    if !price(int(e, 2)) {
+    if !entry_price(int(e, 2)) {
         return Err(5);
     }
     Ok((told_of_index(e), 10))

@@ -1,9 +1,14 @@
 //! Rust's side: numbers out of bytes, their ranges, and the checksum.
 use crate::calls::{Common, Order, Trade};
 
-pub const PRICE: i64 = 9_999_999_999_999;
+const PRICE: i64 = 9_999_999_999_999;
+const ENTRY_PRICE: i64 = 9_999_999_999_999;
 const QUANTITY: i64 = 999_999_999_999_999;
 const AMOUNT: i64 = 999_999_999_999_999_999;
+
+/// The marks: `xe` and `xf` holding these say no limit.
+pub const NO_UPPER_LIMIT: i64 = 9_999_999_999_999;
+pub const NO_LOWER_LIMIT: i64 = -9_999_999_999_999;
 
 pub fn word(s: &[u8], at: usize) -> u32 {
     u32::from_be_bytes(s[at..at + 4].try_into().unwrap())
@@ -17,8 +22,12 @@ pub fn int(s: &[u8], at: usize) -> i64 {
     i64::from_be_bytes(s[at..at + 8].try_into().unwrap())
 }
 
-pub fn price(z: i64) -> bool {
+fn price(z: i64) -> bool {
     (-PRICE..=PRICE).contains(&z)
+}
+
+pub fn entry_price(z: i64) -> bool {
+    (-ENTRY_PRICE..=ENTRY_PRICE).contains(&z)
 }
 
 fn quantity(z: i64) -> bool {
@@ -105,7 +114,7 @@ pub fn entries_end(s: &[u8], mut at: usize, count: u32) -> Option<usize> {
 pub fn entry_in(s: &[u8], at: usize) -> bool {
     let e = &s[at..at + 32];
     let shown = word(e, 28) as usize;
-    price(int(e, 2))
+    entry_price(int(e, 2))
         && quantity(int(e, 10))
         && int(e, 20) >= 0
         && s[at + 32..at + 32 + 8 * shown]

@@ -4,7 +4,7 @@ use crate::calls::{CHANNEL_HEARTBEAT, HEARTBEAT, INDEX, ORDER, SNAPSHOT, TRADE, 
 use crate::inputs::{order_body, snapshot_body, trade_body};
 use crate::race::{same, Bench, Row};
 use crate::ranges::{
-    common_in, entries_end, entries_in, half, int, order_in, price, trade_in, word,
+    common_in, entries_end, entries_in, entry_price, half, int, order_in, trade_in, word,
 };
 use std::fmt::Debug;
 use std::hint::black_box;
@@ -127,8 +127,8 @@ pub fn index(s: &[u8]) -> Answer<Index> {
         common: common(s),
         count: word(s, 65),
     };
-    let points = &s[69..69 + 10 * r.count as usize];
-    if !common_in(&r.common) || !points.chunks_exact(10).all(|each| price(int(each, 2))) {
+    let mut points = s[69..69 + 10 * r.count as usize].chunks_exact(10);
+    if !common_in(&r.common) || !points.all(|each| entry_price(int(each, 2))) {
         return refused(5);
     }
     accepted(r, &s[10..33], &[])

@@ -5,6 +5,7 @@ use compare::receiver::{Cursor, Entry, Found, PriceAnswer, ReadAnswer, Receiver,
 
 const SNAPSHOT: u32 = 300111;
 const INDEX: u32 = 309011;
+const LIMIT: i64 = 9_999_999_999_999;
 const MARK: i64 = 9_999_999_999_999;
 
 /// A common part of 65 bytes and a count.
@@ -162,7 +163,7 @@ fn quantities_come_by_position() {
 #[test]
 fn fields_without_meaning_obey_their_ranges() {
     let broken = [
-        entry(b"zz", MARK + 1, 0, 0, &[]),
+        entry(b"zz", LIMIT + 1, 0, 0, &[]),
         entry(b"2 ", 0, -1, 0, &[]),
         entry(b"2 ", 0, 0, 0, &[1_000_000_000_000_000]),
     ];
