@@ -69,7 +69,7 @@ static void print_level(const struct orizhgum_entry *entry, int64_t price)
         printf("-");
     }
     printf(" ");
-    print_decimal(entry->size, ORIZHGUM_QUANTITY_DECIMALS);
+    print_decimal(entry->size, ORIZHGUM_SIZE_DECIMALS);
     printf("\n");
 }
 

@@ -33,9 +33,9 @@ extern "C" {
 /* ---- the version of this header and of the archive that goes with it */
 
 #define ORIZHGUM_VERSION_MAJOR 0
-#define ORIZHGUM_VERSION_MINOR 3
-#define ORIZHGUM_VERSION_PATCH 1
-#define ORIZHGUM_VERSION "0.3.1"
+#define ORIZHGUM_VERSION_MINOR 4
+#define ORIZHGUM_VERSION_PATCH 0
+#define ORIZHGUM_VERSION "0.4.0"
 
 /* ---- sizes in bytes, and decimals */
 
@@ -63,9 +63,15 @@ enum {
 /* a number of a field is its value times ten to the decimals */
 enum {
     ORIZHGUM_PRICE_DECIMALS = 4,       /* prices of orders and trades, and the previous close */
-    ORIZHGUM_ENTRY_PRICE_DECIMALS = 4, /* prices of entries */
+    ORIZHGUM_ENTRY_PRICE_DECIMALS = 6, /* prices of entries */
     ORIZHGUM_QUANTITY_DECIMALS = 2,    /* quantities, sizes and volumes */
-    ORIZHGUM_AMOUNT_DECIMALS = 4
+    ORIZHGUM_AMOUNT_DECIMALS = 4,
+    /* the same by the names of fields */
+    ORIZHGUM_ORDER_PRICE_DECIMALS = ORIZHGUM_PRICE_DECIMALS,
+    ORIZHGUM_TRADE_PRICE_DECIMALS = ORIZHGUM_PRICE_DECIMALS,
+    ORIZHGUM_PREVIOUS_CLOSE_DECIMALS = ORIZHGUM_PRICE_DECIMALS,
+    ORIZHGUM_SIZE_DECIMALS = ORIZHGUM_QUANTITY_DECIMALS,
+    ORIZHGUM_VOLUME_DECIMALS = ORIZHGUM_QUANTITY_DECIMALS
 };
 
 /* ---- answers */
@@ -416,17 +422,17 @@ struct orizhgum_quantity_answer {
 /* the cursor before the first entry, for a body that its record's call accepts */
 struct orizhgum_cursor orizhgum_cursor(uint32_t kind, const uint8_t *body, size_t length);
 
-/* the entry at a cursor, its price, and the cursor behind it; with any answer but 0 the cursor as it was handed in. *price is
+/* the entry at a cursor, its price, and the cursor behind it; with any answer but 0 the cursor as it was handed in. *entry_price is
  * written where the answer is 0 and the entry says 1, 3 or 5; everywhere else it is left as it stood */
-struct orizhgum_step_answer orizhgum_next(struct orizhgum_cursor at, uint32_t kind, const uint8_t *body, size_t length, int64_t *price);
+struct orizhgum_step_answer orizhgum_next(struct orizhgum_cursor at, uint32_t kind, const uint8_t *body, size_t length, int64_t *entry_price);
 
-/* the price alone, for a host that kept a cursor; ORIZHGUM_NO_PRICE, and every other answer but 0, leaves *price as it stood */
-uint32_t orizhgum_step_price(struct orizhgum_cursor at, uint32_t kind, const uint8_t *body, size_t length, int64_t *price);
+/* the price alone, for a host that kept a cursor; ORIZHGUM_NO_PRICE, and every other answer but 0, leaves *entry_price as it stood */
+uint32_t orizhgum_step_price(struct orizhgum_cursor at, uint32_t kind, const uint8_t *body, size_t length, int64_t *entry_price);
 
 /* entry i, its price, and shown quantity j of it, by position from 0: each call judges the whole body */
 struct orizhgum_entry_answer orizhgum_entry(uint32_t kind, const uint8_t *body, size_t length, uint32_t i);
 
-uint32_t orizhgum_entry_price(uint32_t kind, const uint8_t *body, size_t length, uint32_t i, int64_t *price);
+uint32_t orizhgum_entry_price(uint32_t kind, const uint8_t *body, size_t length, uint32_t i, int64_t *entry_price);
 
 struct orizhgum_quantity_answer orizhgum_quantity(uint32_t kind, const uint8_t *body, size_t length, uint32_t i, uint32_t j);
 

@@ -54,23 +54,23 @@ def a_trade(step, tick):
 def a_snapshot(step, _):
     """A snapshot of 24 or 26 entries; one in eight has no offers."""
     levels = 9 + step // 7 % 2
-    price = 100_000 + step * 37 % 200_000
+    price = 10_000_000 + step * 3_700 % 20_000_000
     entries = [entry(each, price) for each in ("2", "4", "7", "8", "x1", "x2")]
-    entries += [entry("0", price - 100 * level, 5000 * level, level, 1 + level)
-                for level in range(1, levels + 1)]
+    entries += [entry("0", price - 10_000 * level, 5000 * level, level,
+                      1 + level) for level in range(1, levels + 1)]
     offered = step // 3 % 8 > 0
-    entries += [entry("1", offered * (price + 100 * level), offered * 5000,
+    entries += [entry("1", offered * (price + 10_000 * level), offered * 5000,
                       level, offered * 2) for level in range(1, levels + 1)]
     shown = step // 11 % 12
     entries[6]["quantities"] = tuple(range(100, 100 + 100 * shown, 100))
     return good("snapshot", entries, security=f"{step * 7 % 2_800 + 1:06d}",
                 time=clock(step), phase="T0", trade_count=step,
-                volume=10_000 * step, amount=price * 100 * step)
+                volume=10_000 * step, amount=price * step)
 
 
 def an_index(step, _):
     """An index of five entries."""
-    points = [point(each, 105_000_000 + step)
+    points = [point(each, 10_500_000_000 + 100 * step)
               for each in ("3", "xa", "xb", "xc", "xd")]
     return good("index", points, time=clock(step), phase="T0",
                 trade_count=step, volume=10_000 * step)

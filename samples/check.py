@@ -6,7 +6,7 @@ It shares nothing with the modules that build the files and their text.
 import struct
 
 PRICE = (-9_999_999_999_999, 9_999_999_999_999)
-ENTRY_PRICE = (-9_999_999_999_999, 9_999_999_999_999)
+ENTRY_PRICE = (-999_999_999_999_999_999, 999_999_999_999_999_999)
 QUANTITY = (0, 999_999_999_999_999)
 AMOUNT = (0, 999_999_999_999_999_999)
 NATURAL = (0, 9_223_372_036_854_775_807)

@@ -14,7 +14,8 @@ def snapshot():
     """Snapshot: its lengths, its counts, the ranges of its fields."""
     name = "snapshot"
 
-    def group(price=123400, size=50000, level=1, order_count=1, quantities=()):
+    def group(price=12340000, size=50000, level=1, order_count=1,
+              quantities=()):
         return entry("0", price, size, level, order_count, quantities)
 
     deep = group(quantities=(100, 200, 300))
@@ -45,13 +46,13 @@ def snapshot():
 
 def shown_counts(name):
     """Shown counts that need more bytes than the body has: 4."""
-    plain = entry("0", 123400, 50000, 1, 1)
+    plain = entry("0", 12340000, 50000, 1, 1)
 
     def says(count, *quantities):
-        return entry("0", 123400, 50000, 1, 1, quantities, shown_count=count)
+        return entry("0", 12340000, 50000, 1, 1, quantities, shown_count=count)
 
     return [
-        good(name, [entry("0", 123400, 50000, 1, 3, (1, 2, 3)), plain]),
+        good(name, [entry("0", 12340000, 50000, 1, 3, (1, 2, 3)), plain]),
         bad(4, name, [says(1)]),
         bad(4, name, [says(3, 100, 200)]),
         bad(4, name, [says(3, 100, 200)], tail=bytes(7)),
@@ -115,15 +116,25 @@ def limits():
     return [
         said("no limit", entry("xe", up)),
         said("price", entry("xe", up - 1)),
+        said("price", entry("xe", up + 1)),
         said("price", entry("xe", down)),
+        said("price", entry("xe", down - 1)),
         said("price", entry("xe", down + 1)),
         said("no limit", entry("xf", down)),
+        said("price", entry("xf", down - 1)),
         said("price", entry("xf", down + 1)),
         said("price", entry("xf", up)),
         said("price", entry("xf", up - 1)),
+        said("price", entry("xf", up + 1)),
+        # The marks have nines in four of the six decimals.
+        said("price", entry("xe", up + 99)),
+        said("price", entry("xf", down - 99)),
+        # As numbers of four decimals they are a hundred times smaller.
+        said("price", entry("xe", up // 100)),
+        said("price", entry("xf", down // 100)),
         # 000 drops a nine.
-        said("price", entry("xe", 999_999_999_999)),
-        said("price", entry("xf", -999_999_999_999)),
+        said("price", entry("xe", 99_999_999_999_900)),
+        said("price", entry("xf", -99_999_999_999_900)),
         said("no limit", entry("xe", up, 500, 2, 7, (100, 200))),
         said("no limit", entry("xf", down, 500, 2, 7, (100,))),
         # The marks mean nothing elsewhere.
@@ -155,20 +166,24 @@ def entries():
     """What an entry says; the file ends in a frame with a wrong checksum."""
     name, level, bare = "snapshot", "level", "level without a price"
     cases = [
-        good(name, every_type(123400, level, 50000, ())),
+        good(name, every_type(12340000, level, 50000, ())),
         good(name, every_type(0, bare, 70000, ())),
-        good(name, every_type(-123400, level, 0, ())),
+        good(name, every_type(-12340000, level, 0, ())),
         good(name, every_type(1, level, 1, (100,))),
         good(name, every_type(0, bare, 0, (100, 40000))),
+        # No end of the range is a mark.
+        good(name, every_type(ENTRY_PRICE_LIMIT, level, 50000, ())),
+        good(name, every_type(-ENTRY_PRICE_LIMIT, level, 50000, ())),
         good(name, limits()),
         # Entries of every width between two levels.
-        good(name, [said(level, entry("0", 123400, 50000, 1, 2, (20000, 30000))),
+        good(name, [said(level, entry("0", 12340000, 50000, 1, 2,
+                                      (20000, 30000))),
                     said("unknown", entry("xz", 5, 6, 7, 8, (1, 2, 3, 4, 5))),
-                    said(level, entry("1", 123500, 60000, 1, 1, (60000,)))],
+                    said(level, entry("1", 12350000, 60000, 1, 1, (60000,)))],
              tail=b"tail"),
         # A price is seen in all eight bytes.
         good(name, [said(level, entry("0", 1 << shift, 100, 1, 1))
-                    for shift in range(0, 44, 8)]),
+                    for shift in range(0, 64, 8)]),
     ] + meaningless()
     ending = good(name, limits()).data[:-4] + bytes.fromhex("01000000")
     return File("entries", cases, Ending(ending, 3))
@@ -177,7 +192,7 @@ def entries():
 def auction():
     """The rules' auction case."""
     return File("auction", [good("snapshot", [
-        said("level", entry("0", 123400, 50000, 1)),
+        said("level", entry("0", 12340000, 50000, 1)),
         said("level without a price", entry("0", 0, 70000, 2))])])
 
 
@@ -185,7 +200,7 @@ def index():
     """Index."""
     name = "index"
 
-    def group(price=105000000, kind="3"):
+    def group(price=10500000000, kind="3"):
         return point(kind, price)
 
     known = ("3", "xa", "xb", "xc", "xd")
@@ -195,7 +210,8 @@ def index():
     cases = lengths(name) + lengths(name, [group(), group(kind="xa")])
     # 10k is 4 more than 4 GiB at 429,496,730.
     cases += counts(name, group, (429_496_730, 858_993_460))
-    for price in (105000000, 0, -105000000, ENTRY_PRICE_LIMIT,
+    for price in (10500000000, 0, -10500000000, words.NO_UPPER_LIMIT,
+                  words.NO_LOWER_LIMIT, ENTRY_PRICE_LIMIT,
                   -ENTRY_PRICE_LIMIT):
         cases.append(good(name, [pointed("price", point(each, price))
                                  for each in known]

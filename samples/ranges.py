@@ -10,12 +10,14 @@ COUNT_HIGHEST = 4_294_967_295
 # Prices lie within plus and minus these: an order's, a trade's and a previous
 # close, then an entry's.
 PRICE_LIMIT = 9_999_999_999_999
-ENTRY_PRICE_LIMIT = 9_999_999_999_999
+ENTRY_PRICE_LIMIT = 999_999_999_999_999_999
 
 # Each range's two ends, then the numbers beyond them: (held, broken).
 PRICE = ((0, 1, -1, 4_294_967_296, PRICE_LIMIT, -PRICE_LIMIT),
          (PRICE_LIMIT + 1, -PRICE_LIMIT - 1, HIGHEST, LOWEST))
-ENTRY_PRICE = ((0, 1, -1, 4_294_967_296, ENTRY_PRICE_LIMIT,
+# An order's ends, and what is beyond them, are prices of entries.
+ENTRY_PRICE = ((0, 1, -1, 4_294_967_296, PRICE_LIMIT, -PRICE_LIMIT,
+                PRICE_LIMIT + 1, -PRICE_LIMIT - 1, ENTRY_PRICE_LIMIT,
                 -ENTRY_PRICE_LIMIT),
                (ENTRY_PRICE_LIMIT + 1, -ENTRY_PRICE_LIMIT - 1, HIGHEST, LOWEST))
 QUANTITY = ((0, 1, 99, 4_294_967_296, 999_999_999_999_999),

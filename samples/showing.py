@@ -230,11 +230,12 @@ def unknown():
 def largest():
     """Bodies of 16,384 bytes."""
     shown = tuple(range(100, 100 + 2_035))
-    many = [entry("0", 123400 - place, 100 * place, place % 10 + 1, place)
+    many = [entry("0", 12340000 - 100 * place, 100 * place, place % 10 + 1,
+                  place)
             for place in range(509)]
-    over = entry("0", 123400, 50000, 1, 1, shown, shown_count=2_036)
+    over = entry("0", 12340000, 50000, 1, 1, shown, shown_count=2_036)
     cases = [
-        good("snapshot", [entry("0", 123400, 50000, 1, 2_035, shown)],
+        good("snapshot", [entry("0", 12340000, 50000, 1, 2_035, shown)],
              tail=b"\xff" * 3),
         good("snapshot", many, tail=b"\xff" * 27),
         bad(4, "snapshot", [over], tail=b"\xff" * 3),

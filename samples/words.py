@@ -3,11 +3,11 @@
 import wire
 
 # The marks: `xe` and `xf` holding these say no limit.
-NO_UPPER_LIMIT = 9_999_999_999_999
-NO_LOWER_LIMIT = -9_999_999_999_999
+NO_UPPER_LIMIT = 999_999_999_999_900
+NO_LOWER_LIMIT = -999_999_999_999_900
 
 # The fields with decimals, by their width's name, and how many.
-DECIMALS = {"price": 4, "entry price": 4, "quantity": 2, "amount": 4}
+DECIMALS = {"price": 4, "entry price": 6, "quantity": 2, "amount": 4}
 
 # What an entry says, by its two type characters.
 LEVELS = ("0 ", "1 ")

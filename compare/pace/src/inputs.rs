@@ -77,7 +77,7 @@ pub fn entry_bytes() -> Vec<u8> {
     let mut s = Vec::new();
     for e in 0..28usize {
         s.extend(kinds[(e * 5 + e / 7) % 7]);
-        s.extend(123_400i64.to_be_bytes());
+        s.extend(12_340_000i64.to_be_bytes());
         s.extend(500i64.to_be_bytes());
         s.extend((e as u16).to_be_bytes());
         s.extend(9i64.to_be_bytes());

@@ -2,13 +2,13 @@
 use crate::calls::{Common, Order, Trade};
 
 const PRICE: i64 = 9_999_999_999_999;
-const ENTRY_PRICE: i64 = 9_999_999_999_999;
+const ENTRY_PRICE: i64 = 999_999_999_999_999_999;
 const QUANTITY: i64 = 999_999_999_999_999;
 const AMOUNT: i64 = 999_999_999_999_999_999;
 
 /// The marks: `xe` and `xf` holding these say no limit.
-pub const NO_UPPER_LIMIT: i64 = 9_999_999_999_999;
-pub const NO_LOWER_LIMIT: i64 = -9_999_999_999_999;
+pub const NO_UPPER_LIMIT: i64 = 999_999_999_999_900;
+pub const NO_LOWER_LIMIT: i64 = -999_999_999_999_900;
 
 pub fn word(s: &[u8], at: usize) -> u32 {
     u32::from_be_bytes(s[at..at + 4].try_into().unwrap())

@@ -253,15 +253,19 @@ fn entry_kind(dice: &mut Dice, kind: u32) -> [u8; 2] {
     }
 }
 
-/// An entry's price; the marks often, and 0 often.
+/// An entry's price: of `xe` and `xf` the marks often, of a level 0 often; of
+/// every entry the marks and the ends of an order's price, and what is beside
+/// them.
 fn entry_price(rules: &Rules, dice: &mut Dice, kind: [u8; 2]) -> i64 {
     let any = valid(rules, dice, Meaning::EntryPrice);
-    let price = match (&kind, dice.below(6)) {
-        (b"xe" | b"xf", 0 | 1) => rules.no_upper_limit,
-        (b"xe" | b"xf", 2 | 3) => rules.no_lower_limit,
-        (b"xe" | b"xf", 4) => rules.no_upper_limit + dice.pick(&[-1, 1]),
-        (b"xe" | b"xf", _) => rules.no_lower_limit + dice.pick(&[-1, 1]),
-        (b"0 " | b"1 ", 0 | 1) => 0,
+    let mark = dice.pick(&[rules.no_upper_limit, rules.no_lower_limit]);
+    let end = dice.pick(&[rules.price_limit, -rules.price_limit]);
+    let beside = dice.pick(&[-1, 0, 1]);
+    let price = match (&kind, dice.below(10)) {
+        (b"xe" | b"xf", 0..=4) => mark,
+        (b"0 " | b"1 ", 0..=2) => 0,
+        (b"xe" | b"xf", 5) | (_, 6) => mark + beside,
+        (b"xe" | b"xf", 7) | (_, 8) => end + beside,
         _ => any,
     };
     if rules.allows(Meaning::EntryPrice, price) {

@@ -560,6 +560,11 @@ fn sizes() -> String {
         ("ENTRY_PRICE_DECIMALS", rules.entry_price_decimals),
         ("QUANTITY_DECIMALS", rules.quantity_decimals),
         ("AMOUNT_DECIMALS", rules.amount_decimals),
+        ("ORDER_PRICE_DECIMALS", rules.price_decimals),
+        ("TRADE_PRICE_DECIMALS", rules.price_decimals),
+        ("PREVIOUS_CLOSE_DECIMALS", rules.price_decimals),
+        ("SIZE_DECIMALS", rules.quantity_decimals),
+        ("VOLUME_DECIMALS", rules.quantity_decimals),
         ("VERSION_MAJOR", VERSION[0]),
         ("VERSION_MINOR", VERSION[1]),
         ("VERSION_PATCH", VERSION[2]),
@@ -576,7 +581,7 @@ fn sizes() -> String {
 }
 
 /// The version's three numbers.
-const VERSION: [usize; 3] = [0, 3, 1];
+const VERSION: [usize; 3] = [0, 4, 0];
 
 /// The version as one text.
 pub fn version() -> String {

@@ -5,7 +5,7 @@ use super::second;
 use compare::compare::compare;
 use compare::receiver::{
     ArrivalAnswer, Cursor, Draft, Entry, Found, FrameAnswer, Given, Group, PriceAnswer, ReadAnswer,
-    Receiver, Record, RequestAnswer, SetUpAnswer, Stands, StepAnswer, Stream, StreamAnswer,
+    Receiver, Record, RequestAnswer, Says, SetUpAnswer, Stands, StepAnswer, Stream, StreamAnswer,
     Tracker, Verdict, WriteAnswer,
 };
 use compare::second::rules::Rules;
@@ -22,12 +22,13 @@ fn difference(broken: &dyn Receiver) -> Option<String> {
 }
 
 /// The second program with changed rules is told from itself.
-fn changed(name: &str, change: impl Fn(&mut Rules)) {
+fn changed(name: &str, change: impl Fn(&mut Rules)) -> String {
     let mut rules = Rules::base();
     change(&mut rules);
     let told = difference(&Second { rules });
     let told = told.unwrap_or_else(|| panic!("{name}: no difference"));
     println!("{name}: {}", told.lines().next().unwrap_or(""));
+    told
 }
 
 #[test]
@@ -35,7 +36,13 @@ fn limits_one_off() {
     changed("quantity limit", |rules| rules.quantity_limit -= 1);
     changed("runs", |rules| rules.runs = 31);
     changed("mark of no upper limit", |rules| rules.no_upper_limit -= 1);
+    changed("mark of no upper limit above", |rules| {
+        rules.no_upper_limit += 1
+    });
     changed("mark of no lower limit", |rules| rules.no_lower_limit += 1);
+    changed("mark of no lower limit below", |rules| {
+        rules.no_lower_limit -= 1
+    });
     changed("quantity limit above", |rules| rules.quantity_limit += 1);
     changed("body limit", |rules| rules.body_limit -= 1);
     changed("body limit above", |rules| rules.body_limit += 1);
@@ -83,6 +90,52 @@ fn ranges_one_off() {
     changed("seconds above", |rules| rules.seconds = (0, 61));
 }
 
+/// How two receivers answer the call on which they differ.
+fn answers(told: &str) -> (&str, &str) {
+    let (_, behind) = told.split_once("\nfirst:  ").expect("the answers");
+    behind.split_once("\nsecond: ").expect("both answers")
+}
+
+/// An entry's price has two decimals more than an order's: a range of the
+/// other's is told by who refuses.
+#[test]
+fn ranges_of_the_other_price() {
+    let told = changed("entry range of four decimals", |rules| {
+        rules.entry_price_limit = rules.price_limit
+    });
+    let (first, second) = answers(&told);
+    assert!(first.contains("Refused(5)"), "{told}");
+    assert!(!second.contains("Refused(5)"), "{told}");
+    let told = changed("order's price in an entry's range", |rules| {
+        rules.price_limit = rules.entry_price_limit
+    });
+    let (first, second) = answers(&told);
+    assert!(!first.contains("Refused(5)"), "{told}");
+    assert!(second.contains("Refused(5)"), "{told}");
+}
+
+/// The mark of four decimals, and the other's mark, are told by an entry that
+/// has no limit for one and a price for the other.
+#[test]
+fn other_marks() {
+    let base = Rules::base();
+    let (up, down) = (base.no_upper_limit, base.no_lower_limit);
+    for told in [
+        changed("upper mark of four decimals", |rules| {
+            rules.no_upper_limit = up / 100
+        }),
+        changed("lower mark of four decimals", |rules| {
+            rules.no_lower_limit = down / 100
+        }),
+        changed("upper mark negative", |rules| rules.no_upper_limit = down),
+        changed("lower mark positive", |rules| rules.no_lower_limit = up),
+    ] {
+        let (first, second) = answers(&told);
+        let no_limit = |answer: &str| answer.contains("NoLimit") || answer.contains("NoPrice");
+        assert_ne!(no_limit(first), no_limit(second), "{told}");
+    }
+}
+
 /// Ways to break a receiver that no rule names.
 #[derive(Clone, Copy, PartialEq, Eq, Debug)]
 enum How {
@@ -102,6 +155,10 @@ enum How {
     RefusedStepMoves,
     PriceWhereThereIsNone,
     NumberChangedOnNoPrice,
+    MarkOfFourDecimalsToo,
+    OtherMarkToo,
+    BeyondTheMarkToo,
+    MarkInEveryEntry,
     EndsOnOneOnly,
     EightBeforeSeven,
     EightBeforeTen,
@@ -127,7 +184,7 @@ enum How {
     RefusalTenClearsTheState,
 }
 
-const ALL: [How; 39] = [
+const ALL: [How; 43] = [
     How::RefusesEveryFrame,
     How::AnswersHeartbeatAlways,
     How::MadeUpFrameLength,
@@ -144,6 +201,10 @@ const ALL: [How; 39] = [
     How::RefusedStepMoves,
     How::PriceWhereThereIsNone,
     How::NumberChangedOnNoPrice,
+    How::MarkOfFourDecimalsToo,
+    How::OtherMarkToo,
+    How::BeyondTheMarkToo,
+    How::MarkInEveryEntry,
     How::EndsOnOneOnly,
     How::EightBeforeSeven,
     How::EightBeforeTen,
@@ -181,6 +242,33 @@ struct Broken {
 impl Broken {
     fn is(&self, how: How) -> bool {
         self.how == how
+    }
+
+    /// An entry, broken: a price is no limit.
+    fn said(&self, found: Found<Entry>) -> Found<Entry> {
+        let Found::Found(mut entry) = found else {
+            return found;
+        };
+        let Says::Price { price } = entry.says else {
+            return found;
+        };
+        let rules = &self.second.rules;
+        let (up, down) = (rules.no_upper_limit, rules.no_lower_limit);
+        let no_limit = match (self.how, &entry.kind) {
+            (How::MarkOfFourDecimalsToo, b"xe") => price == up / 100,
+            (How::MarkOfFourDecimalsToo, b"xf") => price == down / 100,
+            (How::OtherMarkToo, b"xe") => price == down,
+            (How::OtherMarkToo, b"xf") => price == up,
+            (How::BeyondTheMarkToo, b"xe") => price > up,
+            (How::BeyondTheMarkToo, b"xf") => price < down,
+            (How::MarkInEveryEntry, b"xe" | b"xf") => false,
+            (How::MarkInEveryEntry, _) => price == up || price == down,
+            _ => false,
+        };
+        if no_limit {
+            entry.says = Says::NoLimit;
+        }
+        Found::Found(entry)
     }
 
     /// A price asked for, broken.
@@ -339,7 +427,7 @@ impl Receiver for Broken {
         if self.is(How::PositionBeforeRefusal) && position == u32::MAX {
             return Found::NoSuchEntry;
         }
-        self.second.entry(kind, body, position)
+        self.said(self.second.entry(kind, body, position))
     }
 
     fn quantity(&self, kind: u32, body: &[u8], entry: u32, position: u32) -> Found<i64> {
@@ -357,6 +445,7 @@ impl Receiver for Broken {
 
     fn step(&self, kind: u32, body: &[u8], cursor: Cursor) -> StepAnswer {
         let mut answer = self.second.step(kind, body, cursor);
+        answer.entry = self.said(answer.entry);
         match (self.how, answer.entry) {
             (How::StepsTooFar, Found::Found(_)) => answer.next.left = cursor.left,
             (How::RefusedStepMoves, Found::Refused(_)) => answer.next.left -= 1,

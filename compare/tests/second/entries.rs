@@ -5,8 +5,11 @@ use compare::receiver::{Cursor, Entry, Found, PriceAnswer, ReadAnswer, Receiver,
 
 const SNAPSHOT: u32 = 300111;
 const INDEX: u32 = 309011;
-const LIMIT: i64 = 9_999_999_999_999;
-const MARK: i64 = 9_999_999_999_999;
+const LIMIT: i64 = 999_999_999_999_999_999;
+const MARK: i64 = 999_999_999_999_900;
+
+/// A previous close, of four decimals, lies within plus and minus this.
+const CLOSE_LIMIT: i64 = 9_999_999_999_999;
 
 /// A common part of 65 bytes and a count.
 fn head(count: u32) -> Vec<u8> {
@@ -53,11 +56,11 @@ fn says(kind: &[u8; 2], price: i64, size: i64) -> Says {
 #[test]
 fn auction_levels() {
     let body = snapshot(&[
-        entry(b"0 ", 123_400, 50_000, 1, &[]),
+        entry(b"0 ", 12_340_000, 50_000, 1, &[]),
         entry(b"0 ", 0, 70_000, 2, &[]),
     ]);
     let level = Says::Level {
-        price: 123_400,
+        price: 12_340_000,
         size: 50_000,
         level: 1,
         order_count: 3,
@@ -101,8 +104,32 @@ fn no_limit_has_its_own_mark() {
     assert_eq!(says(b"xf", -MARK, 0), Says::NoLimit);
     assert_eq!(says(b"xe", -MARK, 0), Says::Price { price: -MARK });
     assert_eq!(says(b"xf", MARK, 0), Says::Price { price: MARK });
-    assert_eq!(says(b"xe", MARK - 1, 0), Says::Price { price: MARK - 1 });
     assert_eq!(says(b"2 ", MARK, 0), Says::Price { price: MARK });
+    for price in [MARK - 1, MARK + 1, MARK / 100, LIMIT] {
+        assert_eq!(says(b"xe", price, 0), Says::Price { price });
+        assert_eq!(says(b"xf", -price, 0), Says::Price { price: -price });
+    }
+}
+
+#[test]
+fn prices_of_entries_have_a_range_of_their_own() {
+    let index = |price: i64| [&head(1)[..], b"3 ", &price.to_be_bytes()].concat();
+    for price in [LIMIT, -LIMIT, CLOSE_LIMIT, CLOSE_LIMIT + 1] {
+        let read = second().read(INDEX, &index(price));
+        assert!(matches!(read, ReadAnswer::Record(_)));
+        assert_eq!(says(b"2 ", price, 0), Says::Price { price });
+    }
+    for price in [LIMIT + 1, -LIMIT - 1, i64::MAX, i64::MIN] {
+        let snapshot = snapshot(&[entry(b"2 ", price, 0, 0, &[])]);
+        assert_eq!(second().read(SNAPSHOT, &snapshot), ReadAnswer::Refused(5));
+        assert_eq!(second().read(INDEX, &index(price)), ReadAnswer::Refused(5));
+    }
+    for (close, refused) in [(CLOSE_LIMIT, false), (CLOSE_LIMIT + 1, true)] {
+        let mut body = index(LIMIT);
+        body[33..41].copy_from_slice(&close.to_be_bytes());
+        let read = second().read(INDEX, &body);
+        assert_eq!(read == ReadAnswer::Refused(5), refused);
+    }
 }
 
 #[test]

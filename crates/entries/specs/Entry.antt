@@ -89,7 +89,7 @@ pub data Says : Type 0 where
 
 -- E5: the price of `xe` that is no limit; of `xf` it is the negative
 abbrev pub noLimitMark : ℕ
-noLimitMark = 9999999999999
+noLimitMark = 999999999999900
 
 -- whether two numbers are the same
 abbrev pub same : ℤ → ℤ → Bool

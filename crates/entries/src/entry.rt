@@ -130,7 +130,7 @@ impl Says {
     pub const XG: u16 = 0x7867;
 
     // The prices by which `xe` and `xf` say that there is no limit.
-    pub const NO_UPPER_LIMIT: i64 = 9_999_999_999_999;
+    pub const NO_UPPER_LIMIT: i64 = 999_999_999_999_900;
 
     pub const NO_LOWER_LIMIT: i64 = -Says::NO_UPPER_LIMIT;
 }

@@ -130,7 +130,7 @@ abbrev pub decimals : Kind → ℕ
 decimals orderPrice = 4
 decimals tradePrice = 4
 decimals previousClose = 4
-decimals entryPrice = 4
+decimals entryPrice = 6
 decimals quantity = 2
 decimals amount = 4
 decimals tradeCount = 0
@@ -163,7 +163,7 @@ priceLimit = 9999999999999
 
 -- N2: the highest price of an entry
 abbrev pub entryPriceLimit : ℕ
-entryPriceLimit = 9999999999999
+entryPriceLimit = 999999999999999999
 
 -- N3: the largest quantity, size or volume
 abbrev pub quantityLimit : ℕ

@@ -6,7 +6,7 @@ ghost use Rattle.layout.specs.Kind.{decimals};
 // The price of an order or a trade, or a previous close.
 pub const PRICE: usize = 4;
 
-pub const ENTRY_PRICE: usize = 4;
+pub const ENTRY_PRICE: usize = 6;
 
 // A quantity, size or volume.
 pub const QUANTITY: usize = 2;

@@ -9,7 +9,7 @@ const HIGHEST_PRICE: u64 = 9_999_999_999_999;
 
 const LOWEST_PRICE: u64 = 0xffff_ffff_ffff_ffff - HIGHEST_PRICE + 1;
 
-const HIGHEST_ENTRY_PRICE: u64 = 9_999_999_999_999;
+const HIGHEST_ENTRY_PRICE: u64 = 999_999_999_999_999_999;
 
 const LOWEST_ENTRY_PRICE: u64 = 0xffff_ffff_ffff_ffff - HIGHEST_ENTRY_PRICE + 1;
 
