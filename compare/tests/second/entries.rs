@@ -11,6 +11,9 @@ const MARK: i64 = 999_999_999_999_900;
 /// A previous close, of four decimals, lies within plus and minus this.
 const CLOSE_LIMIT: i64 = 9_999_999_999_999;
 
+/// It stands behind time, channel, stream, security, source and phase.
+const CLOSE_AT: usize = 8 + 2 + 3 + 8 + 4 + 8;
+
 /// A common part of 65 bytes and a count.
 fn head(count: u32) -> Vec<u8> {
     let mut body = 20_261_113_091_500_000i64.to_be_bytes().to_vec();
@@ -126,7 +129,7 @@ fn prices_of_entries_have_a_range_of_their_own() {
     }
     for (close, refused) in [(CLOSE_LIMIT, false), (CLOSE_LIMIT + 1, true)] {
         let mut body = index(LIMIT);
-        body[33..41].copy_from_slice(&close.to_be_bytes());
+        body[CLOSE_AT..CLOSE_AT + 8].copy_from_slice(&close.to_be_bytes());
         let read = second().read(INDEX, &body);
         assert_eq!(read == ReadAnswer::Refused(5), refused);
     }

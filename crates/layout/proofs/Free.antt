@@ -55,7 +55,7 @@ module _ (v : ℕ) where
   unfolding ranged
   orderCount-as = refl
 
-  -- four decimals
+  -- around 0, to the limit of an order's price
   pub tradePrice-as : ranged tradePrice v ≡ ranged orderPrice v
   unfolding ranged
   tradePrice-as = refl
