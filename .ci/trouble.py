@@ -84,7 +84,7 @@ CASES = [
 def clean(wrote):
     """Whether some output looks like one that came to the end of its input, or to a refusal."""
     last = wrote.rstrip(b"\n").rsplit(b"\n", 1)[-1].split()
-    return len(last) == 3 and last[1] in (b"end", b"refused")
+    return len(last) in (3, 4) and last[1] in (b"end", b"refused")
 
 
 def judge(case, name, capture, wanted):

@@ -6,11 +6,13 @@
  *     cc examples/receiver.c $(pkg-config --cflags --libs orizhgum) -o receiver
  *     ./receiver < samples/opening.bin
  *
- * It reads in cuts of any size, at most 65536 bytes; `./receiver BYTES` makes them smaller. What it prints is the same.
+ * It reads in cuts of any size, at most 65536 bytes; `./receiver BYTES` makes them smaller. `./receiver exact` reads what is
+ * missing and no more: first a header, then as many bytes as the last answer says. Where no read is short these are two reads a
+ * frame, and no byte of the next frame is read early. What it prints is the same.
  *
  * What a host does on each refusal:
  *  1 TOO_SHORT       only from orizhgum_stream_end: the capture is cut, or the line broke inside a frame: stops, or connects anew
- *                    with a new stream
+ *                    with a new stream. missing tells how much was lost: of the header where that is cut, else of the frame
  *  2 TOO_LONG        the bytes are no frames: stops, or closes the line and connects anew with a new stream
  *  3 WRONG_SUM       the same: behind a damaged frame nobody knows where the next one begins
  *  4 NOT_ITS_LAYOUT  passes the record over, and goes on behind its frame; from the writer: its own fault, texts or groups that
@@ -25,7 +27,8 @@
  *                    fewer than ORIZHGUM_FRAME_LIMIT bytes: its own fault, stops
  *
  * And on the stream's other answers:
- * 106 MORE           the cut is taken, and no frame is whole yet: reads the next cut
+ * 106 MORE           the cut is taken, and no frame is whole yet: reads the next cut, of any size. missing is what the header lacks
+ *                    or, behind it, the frame: a host that reads so many bytes waits for no more than it needs
  * 107 END            from orizhgum_stream_end: the stream ended behind a whole frame, and nothing is lost */
 #define _POSIX_C_SOURCE 200809L
 
@@ -33,10 +36,14 @@
 
 #include <errno.h>
 #include <inttypes.h>
+#include <stdbool.h>
 #include <stdio.h>
+#include <string.h>
 #include <unistd.h>
 
 #define CUT_LIMIT 65536
+
+_Static_assert(ORIZHGUM_FRAME_LIMIT <= CUT_LIMIT, "a cut has room for what a frame lacks");
 
 static struct orizhgum_tracker tracker;
 
@@ -53,10 +60,16 @@ static void print_decimal(int64_t number, int decimals)
     printf("%s%" PRIu64 ".%0*" PRIu64, sign, part / one, decimals, part % one);
 }
 
-/* 4 and 5: the record is passed over; 1 to 3, and 10: the stream is over */
+/* 4 and 5: the record is passed over; 2, 3 and 10: the stream is over */
 static void refused(uint64_t offset, uint32_t answer)
 {
     printf("%" PRIu64 " refused %" PRIu32 "\n", offset, answer);
+}
+
+/* 1: the stream ended inside a frame */
+static void refused_short(uint64_t offset, size_t missing)
+{
+    printf("%" PRIu64 " refused %d %zu\n", offset, ORIZHGUM_TOO_SHORT, missing);
 }
 
 /* a level without a price has none: the lent number was not written */
@@ -203,12 +216,14 @@ static void print_channels(void)
     }
 }
 
-/* the line: its stream, the buffer that is lent to it, the offset of the next frame, and how many frames there were */
+/* the line: its stream, the buffer that is lent to it, the offset of the next frame, how many frames there were, and how many bytes
+ * are missing: a header behind a frame, else what the last answer says, at least 1 and fewer than the longest frame has */
 static struct {
     struct orizhgum_stream stream;
     uint8_t buffer[ORIZHGUM_FRAME_LIMIT];
     uint64_t offset;
     uint64_t frames;
+    size_t missing;
 } line;
 
 /* a cut of what has come, 0 bytes at the end; below 0 where the read fails */
@@ -238,7 +253,10 @@ static int push_cut(const uint8_t *cut, size_t length)
             }
             line.offset += told.total;
             line.frames++;
-        } else if (told.answer != ORIZHGUM_MORE) {
+            line.missing = ORIZHGUM_HEADER;
+        } else if (told.answer == ORIZHGUM_MORE) {
+            line.missing = told.missing;
+        } else {
             refused(line.offset, told.answer);
             return 1;
         }
@@ -254,22 +272,27 @@ static int end_line(void)
     struct orizhgum_stream_answer told = orizhgum_stream_end(line.stream, line.buffer, sizeof line.buffer);
 
     line.stream = told.next;
-    if (told.answer != ORIZHGUM_END) {
-        refused(line.offset, told.answer);
-        return 1;
+    if (told.answer == ORIZHGUM_END) {
+        printf("%" PRIu64 " end %" PRIu64 "\n", line.offset, line.frames);
+        return 0;
     }
-    printf("%" PRIu64 " end %" PRIu64 "\n", line.offset, line.frames);
-    return 0;
+    if (told.answer == ORIZHGUM_TOO_SHORT) {
+        refused_short(line.offset, told.missing);
+    } else {
+        refused(line.offset, told.answer);
+    }
+    return 1;
 }
 
-/* all cuts of standard input, each of at most so many bytes */
-static int receive_all(size_t most)
+/* all cuts of standard input, each of at most so many bytes, or of what is missing */
+static int receive_all(size_t most, bool exact)
 {
     static uint8_t cut[CUT_LIMIT];
     ssize_t length;
 
     line.stream = orizhgum_stream_new();
-    while ((length = read_cut(cut, most)) > 0) {
+    line.missing = ORIZHGUM_HEADER;
+    while ((length = read_cut(cut, exact ? line.missing : most)) > 0) {
         if (push_cut(cut, (size_t)length)) {
             return 1;
         }
@@ -292,11 +315,12 @@ int main(int argc, char **argv)
 {
     static const uint16_t channels[] = {2011, 2012};
     struct orizhgum_start_answer start = orizhgum_set_up(channels, sizeof channels / sizeof *channels);
-    size_t most = argc == 2 ? cut_size(argv[1]) : CUT_LIMIT;
+    bool exact = argc == 2 && strcmp(argv[1], "exact") == 0;
+    size_t most = argc == 2 && !exact ? cut_size(argv[1]) : CUT_LIMIT;
     int failed;
 
     if (argc > 2 || most == 0) {
-        fprintf(stderr, "usage: receiver [BYTES]; a cut has at most BYTES, 1 to %d\n", CUT_LIMIT);
+        fprintf(stderr, "usage: receiver [BYTES | exact]; a cut has at most BYTES, 1 to %d, or what is missing\n", CUT_LIMIT);
         return 2;
     }
     if (start.answer != ORIZHGUM_OK) {
@@ -304,7 +328,7 @@ int main(int argc, char **argv)
         return 1;
     }
     tracker = start.tracker;
-    failed = receive_all(most);
+    failed = receive_all(most, exact);
     if (!failed) {
         print_channels();
     }

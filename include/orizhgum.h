@@ -3,9 +3,9 @@
  * Every call of the archive is proved against its definition, for every input; orizhgum_tick, orizhgum_heard and
  * orizhgum_request are inline functions here, which hand a tracker's arrays to such calls. A call answers with a number: 0 is the
  * plain answer, 1 to 99 are the refusals, 100 and up the other answers. Look at it first. Beside a refusal, and beside
- * ORIZHGUM_NO_SUCH_ENTRY, every number and text is 0 and what was lent is as it stood. Two calls give back more beside it: a step
- * its cursor as it was handed in, and a stream what was taken, the next state and, at 2 and 3, the bytes that it gathered in its
- * buffer.
+ * ORIZHGUM_NO_SUCH_ENTRY, every number and text is 0 and what was lent is as it stood. Three kinds of calls give back more beside
+ * it: a frame how many bytes are missing, at 1; a step its cursor as it was handed in; and a stream what was taken, the next state,
+ * at 1 how many bytes are missing and, at 2 and 3, the bytes that it gathered in its buffer.
  *
  * The archive links memcpy, memmove and memset, which the host has, and nothing else.
  *
@@ -33,9 +33,9 @@ extern "C" {
 /* ---- the version of this header and of the archive that goes with it */
 
 #define ORIZHGUM_VERSION_MAJOR 0
-#define ORIZHGUM_VERSION_MINOR 4
+#define ORIZHGUM_VERSION_MINOR 5
 #define ORIZHGUM_VERSION_PATCH 0
-#define ORIZHGUM_VERSION "0.4.0"
+#define ORIZHGUM_VERSION "0.5.0"
 
 /* ---- sizes in bytes, and decimals */
 
@@ -78,7 +78,7 @@ enum {
 
 enum {
     ORIZHGUM_OK = 0,
-    ORIZHGUM_TOO_SHORT = 1,        /* fewer than 8 bytes, or fewer than the frame has */
+    ORIZHGUM_TOO_SHORT = 1,        /* fewer than 8 bytes, or fewer than the frame has; missing says how many */
     ORIZHGUM_TOO_LONG = 2,         /* a body above 16,384 bytes */
     ORIZHGUM_WRONG_SUM = 3,        /* the checksum differs */
     ORIZHGUM_NOT_ITS_LAYOUT = 4,   /* the body lacks bytes; in the writer, texts or groups that are not the stated fields */
@@ -94,7 +94,7 @@ enum {
     ORIZHGUM_LATE = 103,           /* a tick that was missing */
     ORIZHGUM_DUPLICATE = 104,      /* a tick that had come before */
     ORIZHGUM_NOTHING_MISSING = 105, /* a request for a channel without a missing number */
-    ORIZHGUM_MORE = 106,           /* the whole cut is taken, and no frame is whole yet */
+    ORIZHGUM_MORE = 106,           /* the whole cut is taken, and no frame is whole yet; missing says how many bytes */
     ORIZHGUM_END = 107             /* the stream was told to have ended, and nothing is left over */
 };
 
@@ -113,13 +113,20 @@ enum {
     ORIZHGUM_CHANNEL_HEARTBEAT = 390095
 };
 
-/* ---- the frame that some bytes begin with: its type, the length of its body, which stands behind the header, and of the frame */
+/* ---- the frame that some bytes begin with: its type, the length of its body, which stands behind the header, and of the frame.
+ *
+ * With answer 1, missing is how many bytes more let the reader judge further, at least 1: what a cut header lacks of its 8, what a
+ * cut frame lacks by its header. With any fewer behind, the answer is 1 again, with as many fewer missing. With exactly so many it
+ * is, behind a cut header, 2, or 1 with what is left of the frame; behind a cut frame, 0 or 3. So a host that reads what is missing,
+ * first ORIZHGUM_HEADER bytes, reads at most twice a frame, where each read brings all that it asks for. For a body of 4 both numbers
+ * are 8: the same number twice is no fault. With every other answer missing is 0. */
 
 struct orizhgum_frame_answer {
     uint32_t answer;
     uint32_t kind;
     size_t len;
     size_t total;
+    size_t missing;
 };
 
 struct orizhgum_frame_answer orizhgum_frame(const uint8_t *bytes, size_t length);
@@ -143,13 +150,15 @@ enum {
 };
 
 /* the frame's type, the length of its body, which stands behind the header, and of the frame, 0 where the answer is not 0; how many
- * bytes of the cut were taken; and the stream for the next call */
+ * bytes are missing, as above, with ORIZHGUM_MORE and with 1, 0 with every other answer; how many bytes of the cut were taken; and
+ * the stream for the next call */
 struct orizhgum_stream_answer {
     uint32_t answer;
     uint32_t stands;
     uint32_t kind;
     size_t len;
     size_t total;
+    size_t missing;
     size_t took;
     struct orizhgum_stream next;
 };
@@ -163,7 +172,8 @@ struct orizhgum_stream orizhgum_stream_new(void);
 struct orizhgum_stream_answer orizhgum_stream_push(struct orizhgum_stream stream, uint8_t *buffer, size_t buffer_length,
     const uint8_t *cut, size_t cut_length);
 
-/* the stream has ended: ORIZHGUM_END, or refused by 1 where a frame is unfinished; then every call repeats that answer */
+/* the stream has ended: ORIZHGUM_END, or refused by 1, with missing, where a frame is unfinished; then every call repeats that
+ * answer */
 struct orizhgum_stream_answer orizhgum_stream_end(struct orizhgum_stream stream, const uint8_t *buffer, size_t buffer_length);
 
 /* ---- how a body of a type reads: ORIZHGUM_OK, refused by 4 or 5, or ORIZHGUM_UNKNOWN */

@@ -131,10 +131,13 @@ def opaque(type_number, content):
 
 
 def last_line(offset, count, ending):
-    """A file's last line."""
+    """A file's last line; behind 1 stands how many bytes are missing."""
     if ending is None:
         return f"{offset} end {count}"
-    return f"{offset} refused {ending.number}"
+    line = f"{offset} refused {ending.number}"
+    if ending.number == 1:
+        line += f" {wire.missing(ending.data)}"
+    return line
 
 
 def bytes_of(file):

@@ -98,12 +98,13 @@ def walk(data):
     while offset < len(data):
         left = data[offset:]
         if len(left) < 8:
-            return (yield from last(offset, "refused", 1))
+            return (yield from last(offset, "refused", 1, 8 - len(left)))
         kind, length = struct.unpack_from(">II", left)
         if length > 16_384:
             return (yield from last(offset, "refused", 2))
-        if len(left) < 12 + length:
-            return (yield from last(offset, "refused", 1))
+        lacks = length + 12 - len(left)
+        if lacks > 0:
+            return (yield from last(offset, "refused", 1, lacks))
         told, = struct.unpack_from(">I", left, 8 + length)
         if told != sum(left[:8 + length]) & 255:
             return (yield from last(offset, "refused", 3))
@@ -113,9 +114,9 @@ def walk(data):
     yield from last(offset, "end", count)
 
 
-def last(offset, word, number):
+def last(offset, word, *numbers):
     """The end of a walk."""
-    yield offset, word, number
+    yield offset, word, " ".join(str(each) for each in numbers)
 
 
 def head_lines(text):
@@ -135,8 +136,8 @@ def check_showing(data, text):
     """Offsets, refusals and the last line are those of the walk."""
     walked, lines = list(walk(data)), head_lines(text)
     assert len(walked) == len(lines)
-    *frames, (offset, word, number) = walked
-    assert lines[-1] == f"{offset} {word} {number}"
+    *frames, (offset, word, numbers) = walked
+    assert lines[-1] == f"{offset} {word} {numbers}"
     for (offset, kind, body), line in zip(frames, lines):
         refusal = judge(kind, body)
         assert line.startswith(f"{offset} "), line

@@ -126,7 +126,9 @@ def files():
     return [
         two(),
         File("empty", []),
-        # 1: fewer than 8 bytes, or fewer than 12+L.
+        # 1: fewer than 8 bytes, or fewer than 12+L. The last line says how
+        # many are missing.
+        File("cut_one", some(), Ending(order[:1], 1)),
         File("cut_header", some(), Ending(order[:7], 1)),
         File("cut_after_header", some(), Ending(order[:8], 1)),
         File("cut_body", some(), Ending(order[:40], 1)),

@@ -77,7 +77,7 @@ def statistics():
     cases += group_ends(name, TEXT_8, lambda each: group(phase=each))
     cases += [bad(5, name, [group()], time=-1),
               bad(4, name, [group()], time=-1, short=1)]
-    return File("statistics", cases, Ending(good(name, [group()]).data[:-5], 1))
+    return File("statistics", cases, Ending(good(name, [group()]).data[:20], 1))
 
 
 def status():

@@ -188,3 +188,10 @@ def frame(type_number, content):
     """Type, body length, body, checksum."""
     head = number(4, type_number) + number(4, len(content))
     return head + content + checksum(head + content)
+
+
+def missing(cut):
+    """How many bytes a cut header lacks, or the frame behind a whole one."""
+    whole = 8 if len(cut) < 8 else 12 + int.from_bytes(cut[4:8], "big")
+    assert len(cut) < whole, cut
+    return whole - len(cut)

@@ -225,16 +225,16 @@ impl Play<'_> {
         asked: Asked,
     ) -> Result<(), Told> {
         let call = || "frame".to_string();
-        match same(call, self.first.frame(bytes), self.second.frame(bytes))? {
-            FrameAnswer::Refused(number) => {
-                self.table
-                    .meet(Part::Reader, type_row(made_as), Column::Refused(number));
-                Ok(())
-            }
+        let refused = match same(call, self.first.frame(bytes), self.second.frame(bytes))? {
+            FrameAnswer::Short { .. } => 1,
+            FrameAnswer::Refused(number) => number,
             FrameAnswer::Frame { kind, from, to, .. } => {
-                self.body(kind, &bytes[from..to], pushed, asked)
+                return self.body(kind, &bytes[from..to], pushed, asked)
             }
-        }
+        };
+        let column = Column::Refused(refused);
+        self.table.meet(Part::Reader, type_row(made_as), column);
+        Ok(())
     }
 
     /// Reads a body, and asks for what is in it.

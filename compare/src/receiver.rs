@@ -17,6 +17,9 @@ pub const PLACES: usize = CHANNELS * RUNS;
 /// The frame reader's answer.
 #[derive(Clone, Copy, PartialEq, Eq, Debug)]
 pub enum FrameAnswer {
+    /// Refused by 1: how many bytes more would let it judge further.
+    Short { missing: usize },
+    /// Refused by any other number.
     Refused(u32),
     /// The type; the body as the lent bytes from `from` to `to`; 12+L.
     Frame {
@@ -271,9 +274,13 @@ pub enum Stands {
 /// What a call of the stream found.
 #[derive(Clone, Copy, PartialEq, Eq, Debug)]
 pub enum Given {
+    /// Refused by 1: how many bytes the held ones lack.
+    Short { missing: usize },
+    /// Refused by any other number.
     Refused(u32),
-    /// The whole cut is taken, and no frame is whole yet.
-    More,
+    /// The whole cut is taken, and no frame is whole yet: how many bytes those
+    /// held and the cut lack together.
+    More { missing: usize },
     /// The stream has ended, with no bytes left over.
     End,
     /// A frame: where it stands, its type, L and 12+L.
@@ -296,18 +303,21 @@ pub struct StreamAnswer {
 
 /// The calls of a receiver.
 pub trait Receiver {
-    /// Reads the frame at the beginning of the bytes: 1 to 3.
+    /// Reads the frame at the beginning of the bytes: 1 to 3, of which 1 says
+    /// how many bytes are missing.
     fn frame(&self, bytes: &[u8]) -> FrameAnswer;
 
     /// A stream of which nothing has come.
     fn fresh(&self) -> Stream;
 
     /// A cut of the stream comes: 10; where it has stopped, its answer again;
-    /// then a frame, 2, 3 or more. Held bytes are the buffer's first.
+    /// then a frame, 2, 3 or more, which says how many bytes are missing. Held
+    /// bytes are the buffer's first.
     fn push(&self, stream: Stream, buffer: &mut [u8], cut: &[u8]) -> StreamAnswer;
 
     /// The stream has ended: 10; where it has stopped, its answer again; then
-    /// 1 or end. Nobody writes the buffer.
+    /// 1, which says how many bytes are missing, or end. Nobody writes the
+    /// buffer.
     fn end(&self, stream: Stream, buffer: &mut [u8]) -> StreamAnswer;
 
     /// Reads a body: unknown, 4, 5 or the record.

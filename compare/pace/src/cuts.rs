@@ -77,7 +77,7 @@ impl Side for Stream<'_> {
     fn seen(told: &Told) -> Seen {
         let (kind, goes_on) = match told.says {
             Says::InCut(frame) | Says::InBuffer(frame) => (Some(frame.kind), true),
-            says => (None, matches!(says, Says::More)),
+            says => (None, matches!(says, Says::More(_))),
         };
         Seen {
             kind,
@@ -90,10 +90,15 @@ impl Side for Stream<'_> {
         let (answer, stands, frame) = match told.says {
             Says::InCut(frame) => (0, calls::IN_CUT, Some(frame)),
             Says::InBuffer(frame) => (0, calls::IN_BUFFER, Some(frame)),
-            Says::More => (calls::MORE, 0, None),
+            Says::More(_) => (calls::MORE, 0, None),
             Says::End => (calls::END, 0, None),
+            Says::Short(_) => (1, 0, None),
             Says::Refused(why) => (why, 0, None),
             Says::Malformed => (10, 0, None),
+        };
+        let missing = match told.says {
+            Says::More(missing) | Says::Short(missing) => missing,
+            _ => 0,
         };
         let told = StreamAnswer {
             answer,
@@ -101,6 +106,7 @@ impl Side for Stream<'_> {
             kind: frame.map_or(0, |f| f.kind),
             len: frame.map_or(0, |f| f.len),
             total: frame.map_or(0, |f| f.total),
+            missing,
             took: told.took,
             next: calls::Stream {
                 held: self.held,

@@ -8,7 +8,6 @@ pub const FRAME_LIMIT: usize = BODY_LIMIT + 12;
 const GOING: u32 = 0;
 const ENDED: u32 = 1;
 
-const TOO_SHORT: u32 = 1;
 const TOO_LONG: u32 = 2;
 const WRONG_SUM: u32 = 3;
 
@@ -24,8 +23,11 @@ pub struct Frame {
 pub enum Says {
     InCut(Frame),
     InBuffer(Frame),
-    More,
+    /// How many bytes are missing.
+    More(usize),
     End,
+    /// Refused by 1: how many bytes are missing.
+    Short(usize),
     Refused(u32),
     Malformed,
 }
@@ -59,14 +61,14 @@ fn lacks(bytes: &[u8]) -> usize {
 /// What bytes begin with.
 enum Begins {
     Whole(Frame),
-    Short,
+    Short(usize),
     TooLong,
     WrongSum(usize),
 }
 
 fn read(bytes: &[u8]) -> Begins {
     if bytes.len() < 8 {
-        return Begins::Short;
+        return Begins::Short(8 - bytes.len());
     }
     let len = word(bytes, 4) as usize;
     if len > BODY_LIMIT {
@@ -74,7 +76,7 @@ fn read(bytes: &[u8]) -> Begins {
     }
     let (end, total) = (len + 8, len + 12);
     if bytes.len() < total {
-        return Begins::Short;
+        return Begins::Short(total - bytes.len());
     }
     if word(bytes, end) != checksum(&bytes[..end]) {
         return Begins::WrongSum(total);
@@ -109,11 +111,11 @@ impl<'a> Stream<'a> {
         led.then_some(wants)
     }
 
-    /// What a stream that is over answers, at every call.
-    fn over(&self) -> Told {
+    /// What a stream that is over, and whose held bytes want so many, answers at every call.
+    fn over(&self, wants: usize) -> Told {
         let says = match (self.mark, self.held) {
             (ENDED, 0) => Says::End,
-            (ENDED, _) => Says::Refused(TOO_SHORT),
+            (ENDED, _) => Says::Short(wants),
             (mark, _) => Says::Refused(mark),
         };
         Told { says, took: 0 }
@@ -135,10 +137,10 @@ impl<'a> Stream<'a> {
         }
     }
 
-    fn more(&mut self, rest: &[u8], took: usize) -> Told {
+    fn more(&mut self, rest: &[u8], took: usize, missing: usize) -> Told {
         self.keep(rest);
         Told {
-            says: Says::More,
+            says: Says::More(missing),
             took,
         }
     }
@@ -150,7 +152,7 @@ impl<'a> Stream<'a> {
                 says: Says::InCut(frame),
                 took: frame.total,
             },
-            Begins::Short => self.more(cut, cut.len()),
+            Begins::Short(missing) => self.more(cut, cut.len(), missing),
             Begins::TooLong => self.refuse(TOO_LONG, 8),
             Begins::WrongSum(total) => self.refuse(WRONG_SUM, total),
         }
@@ -161,7 +163,7 @@ impl<'a> Stream<'a> {
         let mut rest = cut;
         while wants > 0 {
             if rest.len() < wants {
-                return self.more(rest, cut.len());
+                return self.more(rest, cut.len(), wants - rest.len());
             }
             let (taken, left) = rest.split_at(wants);
             self.keep(taken);
@@ -189,7 +191,7 @@ impl<'a> Stream<'a> {
                 says: Says::Malformed,
                 took: 0,
             },
-            Some(_) if self.mark != GOING => self.over(),
+            Some(wants) if self.mark != GOING => self.over(wants),
             Some(_) if self.held == 0 => self.begin(cut),
             Some(wants) => self.go_on(wants, cut),
         }
@@ -197,15 +199,15 @@ impl<'a> Stream<'a> {
 
     #[inline(never)]
     pub fn end(&mut self) -> Told {
-        if self.wants().is_none() {
+        let Some(wants) = self.wants() else {
             return Told {
                 says: Says::Malformed,
                 took: 0,
             };
-        }
+        };
         if self.mark == GOING {
             self.mark = ENDED;
         }
-        self.over()
+        self.over(wants)
     }
 }

@@ -104,6 +104,7 @@ impl Play<'_> {
             return Err(told(call(), &answer, &there));
         }
         flow.same_buffer(call)?;
+        self.missing(flow, &answer, call)?;
         flow.note(cut, &answer);
         flow.taken += answer.took;
         let way = if cut.is_empty() {
@@ -114,6 +115,23 @@ impl Play<'_> {
         self.met(flow.way, stream_row(false, state), way, answer.given);
         flow.state = answer.next;
         Ok(matches!(answer.given, Given::Frame { .. }) && answer.took > 0)
+    }
+
+    /// Whether "more" says what the bytes lack that are held now: what the
+    /// frame reader says of them, at once.
+    fn missing(
+        &self,
+        flow: &Flow,
+        answer: &StreamAnswer,
+        call: impl Fn() -> String,
+    ) -> Result<(), Told> {
+        let Given::More { missing } = answer.given else {
+            return Ok(());
+        };
+        let held = flow.one.get(..answer.next.held).unwrap_or_default();
+        let call = || format!("what is missing behind {}", call());
+        let told = FrameAnswer::Short { missing };
+        same(call, told, self.second.frame(held)).map(|_| ())
     }
 
     /// Tells the stream's end.
@@ -134,8 +152,9 @@ impl Play<'_> {
     /// A call of the stream was answered.
     fn met(&mut self, way: Option<Unled>, row: usize, called: Column, given: Given) {
         let column = match given {
+            Given::Short { .. } => Column::Refused(1),
             Given::Refused(number) => Column::Refused(number),
-            Given::More => Column::More,
+            Given::More { .. } => Column::More,
             Given::End => Column::Ended,
             Given::Frame { stands, .. } => match stands {
                 Stands::InCut => Column::FrameInCut,
@@ -167,8 +186,8 @@ impl Flow<'_> {
     /// the stream has stopped at.
     fn note(&mut self, cut: &[u8], answer: &StreamAnswer) {
         match answer.given {
-            Given::More => {}
-            Given::Refused(_) | Given::End => {
+            Given::More { .. } => {}
+            Given::Short { .. } | Given::Refused(_) | Given::End => {
                 if self.read.stopped.last() != Some(&answer.given) {
                     self.read.stopped.push(answer.given);
                 }
@@ -208,7 +227,8 @@ fn read_at_once(receiver: &dyn Receiver, whole: &[u8], ended: bool) -> Read {
             break if ended { vec![Given::End] } else { Vec::new() };
         }
         match receiver.frame(&whole[offset..]) {
-            FrameAnswer::Refused(1) if !ended => break Vec::new(),
+            FrameAnswer::Short { .. } if !ended => break Vec::new(),
+            FrameAnswer::Short { missing } => break vec![Given::Short { missing }],
             FrameAnswer::Refused(number) => break vec![Given::Refused(number)],
             FrameAnswer::Frame {
                 kind,

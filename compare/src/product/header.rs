@@ -18,6 +18,7 @@ pub struct FrameAnswer {
     pub kind: u32,
     pub len: usize,
     pub total: usize,
+    pub missing: usize,
 }
 
 #[repr(C)]
@@ -28,6 +29,7 @@ pub struct StreamAnswer {
     pub kind: u32,
     pub len: usize,
     pub total: usize,
+    pub missing: usize,
     pub took: usize,
     pub next: Stream,
 }
@@ -305,9 +307,9 @@ macro_rules! laid_out {
 /// C's assertions about every struct.
 pub fn structs() -> String {
     laid_out! {
-        FrameAnswer = FrameAnswer { answer, kind, len, total }
+        FrameAnswer = FrameAnswer { answer, kind, len, total, missing }
         Stream = Stream { held, mark }
-        StreamAnswer = StreamAnswer { answer, stands, kind, len, total, took, next }
+        StreamAnswer = StreamAnswer { answer, stands, kind, len, total, missing, took, next }
         Order = Order { channel, number, order_price, quantity, side, time, order_type }
         Trade = Trade { channel, number, bid_number, offer_number, trade_price, quantity, execution, time }
         ChannelHeartbeat = ChannelHeartbeat { channel, last_number, end }
@@ -581,7 +583,7 @@ fn sizes() -> String {
 }
 
 /// The version's three numbers.
-const VERSION: [usize; 3] = [0, 4, 0];
+const VERSION: [usize; 3] = [0, 5, 0];
 
 /// The version as one text.
 pub fn version() -> String {

@@ -20,8 +20,9 @@ pub struct Product;
 
 /// Stands for a refusal's number where an answer has something that the
 /// header does not let it have: a number or a text beside a refusal, one that
-/// the entry does not say, an answer or a price that does not go with the
-/// rest. No receiver refuses by it, so it is always a difference.
+/// the entry does not say, an answer, a price or a number of missing bytes
+/// that does not go with the rest. No receiver refuses by it, so it is always
+/// a difference.
 pub const STRAY: u32 = u32::MAX;
 
 /// A refusal's number, or `STRAY`.
@@ -227,7 +228,26 @@ fn group(kind: u32, told: &GroupAnswer) -> Option<Group> {
     }
 }
 
-/// The answer of a stream's call. Without a frame there is nothing of one.
+/// The answer of the frame reader. Without a frame there is nothing of one,
+/// and bytes are missing with 1 alone.
+fn framed(told: header::FrameAnswer) -> FrameAnswer {
+    let missing = told.missing;
+    let fits = (told.answer == 1) == (missing > 0);
+    let bare = fits && (told.kind, told.len, told.total) == (0, 0, 0);
+    match told.answer {
+        0 if fits => FrameAnswer::Frame {
+            kind: told.kind,
+            from: 8,
+            to: told.len.wrapping_add(8),
+            size: told.total,
+        },
+        1 if bare => FrameAnswer::Short { missing },
+        answer => FrameAnswer::Refused(refusal(answer, bare)),
+    }
+}
+
+/// The answer of a stream's call. Without a frame there is nothing of one, and
+/// bytes are missing with 1 and with "more" alone.
 fn streamed(told: header::StreamAnswer) -> StreamAnswer {
     let frame = |stands| Given::Frame {
         stands,
@@ -235,12 +255,15 @@ fn streamed(told: header::StreamAnswer) -> StreamAnswer {
         length: told.len,
         size: told.total,
     };
-    let bare = (told.stands, told.kind, told.len, told.total) == (0, 0, 0, 0);
+    let missing = told.missing;
+    let fits = matches!(told.answer, 1 | MORE) == (missing > 0);
+    let bare = fits && (told.stands, told.kind, told.len, told.total) == (0, 0, 0, 0);
     let given = match (told.answer, told.stands) {
-        (0, IN_CUT) => frame(Stands::InCut),
-        (0, IN_BUFFER) => frame(Stands::InBuffer),
+        (0, IN_CUT) if fits => frame(Stands::InCut),
+        (0, IN_BUFFER) if fits => frame(Stands::InBuffer),
         (0, _) => Given::Refused(STRAY),
-        (MORE, _) if bare => Given::More,
+        (1, _) if bare => Given::Short { missing },
+        (MORE, _) if bare => Given::More { missing },
         (END, _) if bare => Given::End,
         (answer, _) => Given::Refused(refusal(answer, bare)),
     };
@@ -271,19 +294,7 @@ macro_rules! lend {
 
 impl Receiver for Product {
     fn frame(&self, bytes: &[u8]) -> FrameAnswer {
-        let told = unsafe { orizhgum_frame(lent(bytes), bytes.len()) };
-        match told.answer {
-            0 => FrameAnswer::Frame {
-                kind: told.kind,
-                from: 8,
-                to: told.len.wrapping_add(8),
-                size: told.total,
-            },
-            answer => {
-                let bare = (told.kind, told.len, told.total) == (0, 0, 0);
-                FrameAnswer::Refused(refusal(answer, bare))
-            }
-        }
+        framed(unsafe { orizhgum_frame(lent(bytes), bytes.len()) })
     }
 
     fn fresh(&self) -> Stream {
@@ -504,40 +515,80 @@ mod tests {
         );
     }
 
-    const MORE_ALONE: header::StreamAnswer = header::StreamAnswer {
-        answer: MORE,
-        stands: 0,
-        kind: 0,
-        len: 0,
-        total: 0,
-        took: 5,
-        next: Stream { held: 5, mark: 0 },
-    };
+    /// A frame's answer, with nothing but the bytes that are missing.
+    fn bare(answer: u32, missing: usize) -> header::FrameAnswer {
+        header::FrameAnswer {
+            answer,
+            kind: 0,
+            len: 0,
+            total: 0,
+            missing,
+        }
+    }
 
     #[test]
-    fn a_frame_beside_another_answer_is_stray() {
-        assert_eq!(streamed(MORE_ALONE).given, Given::More);
+    fn bytes_are_missing_with_1_alone() {
+        assert_eq!(framed(bare(1, 7)), FrameAnswer::Short { missing: 7 });
+        assert_eq!(framed(bare(2, 0)), FrameAnswer::Refused(2));
+        let frame = header::FrameAnswer {
+            kind: 3,
+            total: 12,
+            ..bare(0, 0)
+        };
+        assert!(matches!(framed(frame), FrameAnswer::Frame { .. }));
         let strays = [
-            header::StreamAnswer {
-                stands: IN_CUT,
-                ..MORE_ALONE
+            bare(1, 0),
+            bare(2, 1),
+            bare(3, 1),
+            bare(MORE, 1),
+            header::FrameAnswer {
+                missing: 1,
+                ..frame
             },
-            header::StreamAnswer {
-                kind: 3,
-                ..MORE_ALONE
-            },
-            header::StreamAnswer {
-                len: 1,
-                ..MORE_ALONE
-            },
-            header::StreamAnswer {
-                total: 12,
-                ..MORE_ALONE
+            header::FrameAnswer {
+                answer: 1,
+                missing: 1,
+                ..frame
             },
         ];
         for stray in strays {
-            for answer in [MORE, END, 1, 2, 3, 10] {
-                let told = streamed(header::StreamAnswer { answer, ..stray });
+            assert_eq!(framed(stray), FrameAnswer::Refused(STRAY), "{stray:?}");
+        }
+    }
+
+    /// A stream's answer without a frame, with what goes with it.
+    fn alone(answer: u32) -> header::StreamAnswer {
+        header::StreamAnswer {
+            answer,
+            stands: 0,
+            kind: 0,
+            len: 0,
+            total: 0,
+            missing: match answer {
+                1 | MORE => 3,
+                _ => 0,
+            },
+            took: 5,
+            next: Stream { held: 5, mark: 0 },
+        }
+    }
+
+    #[test]
+    fn a_frame_beside_another_answer_is_stray() {
+        for answer in [MORE, END, 1, 2, 3, 10] {
+            let alone = alone(answer);
+            assert_ne!(streamed(alone).given, Given::Refused(STRAY), "{alone:?}");
+            let strays = [
+                header::StreamAnswer {
+                    stands: IN_CUT,
+                    ..alone
+                },
+                header::StreamAnswer { kind: 3, ..alone },
+                header::StreamAnswer { len: 1, ..alone },
+                header::StreamAnswer { total: 12, ..alone },
+            ];
+            for stray in strays {
+                let told = streamed(stray);
                 assert_eq!(told.given, Given::Refused(STRAY), "{stray:?}");
             }
         }
@@ -546,12 +597,35 @@ mod tests {
     #[test]
     fn a_frame_that_stands_nowhere_is_stray() {
         for stands in [0, 3, u32::MAX] {
-            let told = streamed(header::StreamAnswer {
-                answer: 0,
-                stands,
-                ..MORE_ALONE
-            });
+            let told = streamed(header::StreamAnswer { stands, ..alone(0) });
             assert_eq!(told.given, Given::Refused(STRAY), "{stands}");
+        }
+    }
+
+    #[test]
+    fn bytes_of_a_stream_are_missing_with_1_and_more_alone() {
+        assert_eq!(streamed(alone(1)).given, Given::Short { missing: 3 });
+        assert_eq!(streamed(alone(MORE)).given, Given::More { missing: 3 });
+        for (answer, stands) in [
+            (0, IN_CUT),
+            (0, IN_BUFFER),
+            (1, 0),
+            (2, 0),
+            (3, 0),
+            (10, 0),
+            (MORE, 0),
+            (END, 0),
+        ] {
+            let whole = header::StreamAnswer {
+                stands,
+                ..alone(answer)
+            };
+            assert_ne!(streamed(whole).given, Given::Refused(STRAY), "{whole:?}");
+            let stray = header::StreamAnswer {
+                missing: usize::from(whole.missing == 0),
+                ..whole
+            };
+            assert_eq!(streamed(stray).given, Given::Refused(STRAY), "{stray:?}");
         }
     }
 }

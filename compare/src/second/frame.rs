@@ -11,7 +11,7 @@ pub const AROUND: usize = 12;
 /// Reads the frame at the beginning of the bytes.
 pub fn frame(rules: &Rules, bytes: &[u8]) -> FrameAnswer {
     match judge(rules, bytes) {
-        Err(refusal) => FrameAnswer::Refused(refusal),
+        Err(refusal) => refusal,
         Ok((kind, length)) => FrameAnswer::Frame {
             kind,
             from: HEADER,
@@ -21,24 +21,30 @@ pub fn frame(rules: &Rules, bytes: &[u8]) -> FrameAnswer {
     }
 }
 
-/// The type and L; or, in this order, 1, 2, 1, 3.
-fn judge(rules: &Rules, bytes: &[u8]) -> Result<(u32, usize), u32> {
-    if bytes.len() < HEADER {
-        return Err(1);
-    }
+/// The type and L; or, in this order, 1, 2, 1, 3. The first 1 says what the
+/// header lacks, the second what the frame lacks.
+fn judge(rules: &Rules, bytes: &[u8]) -> Result<(u32, usize), FrameAnswer> {
+    whole(bytes, HEADER)?;
     let length = u64::from(four(bytes, 4));
     if length > rules.body_limit as u64 {
-        return Err(2);
+        return Err(FrameAnswer::Refused(2));
     }
     let length = length as usize;
-    if bytes.len() < AROUND + length {
-        return Err(1);
-    }
+    whole(bytes, AROUND + length)?;
     let end = HEADER + length;
     if four(bytes, end) != checksum(&bytes[..end]) {
-        return Err(3);
+        return Err(FrameAnswer::Refused(3));
     }
     Ok((four(bytes, 0), length))
+}
+
+/// 1 where there are fewer bytes than this size, with how many are missing.
+fn whole(bytes: &[u8], size: usize) -> Result<(), FrameAnswer> {
+    if bytes.len() < size {
+        let missing = size - bytes.len();
+        return Err(FrameAnswer::Short { missing });
+    }
+    Ok(())
 }
 
 /// The sum of all bytes modulo 256, held as a 32-bit number.

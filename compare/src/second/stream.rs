@@ -24,7 +24,7 @@ fn led_to(rules: &Rules, stream: Stream, buffer: &[u8]) -> bool {
         return false;
     };
     match stream.mark {
-        GOES_ON | ENDED => frame(rules, held) == FrameAnswer::Refused(1),
+        GOES_ON | ENDED => matches!(frame(rules, held), FrameAnswer::Short { .. }),
         TOO_LONG | WRONG_SUM => held.is_empty(),
         _ => false,
     }
@@ -36,7 +36,7 @@ fn settled(rules: &Rules, stream: Stream, buffer: &[u8]) -> Option<StreamAnswer>
     let given = match (stream.mark, stream.held) {
         _ if !led_to(rules, stream, buffer) => Given::Refused(10),
         (GOES_ON, _) => return None,
-        (ENDED, 0) => Given::End,
+        (ENDED, held) => over(rules, &buffer[..held]),
         (refusal, _) => Given::Refused(refusal),
     };
     Some(StreamAnswer {
@@ -44,6 +44,15 @@ fn settled(rules: &Rules, stream: Stream, buffer: &[u8]) -> Option<StreamAnswer>
         took: 0,
         next: stream,
     })
+}
+
+/// What a stream that has ended answers: 1 with what the held bytes lack, or
+/// end where there are none.
+fn over(rules: &Rules, held: &[u8]) -> Given {
+    match frame(rules, held) {
+        FrameAnswer::Short { missing } if !held.is_empty() => Given::Short { missing },
+        _ => Given::End,
+    }
 }
 
 /// A cut of the stream comes.
@@ -59,9 +68,11 @@ pub fn push(rules: &Rules, stream: Stream, buffer: &mut [u8], cut: &[u8]) -> Str
         Given::Frame { size, .. } => (size, FRESH),
         Given::Refused(TOO_LONG) => (HEADER, stopped(TOO_LONG)),
         Given::Refused(mark) => (AROUND + four(&together, 4) as usize, stopped(mark)),
-        Given::More | Given::End => (together.len(), keeping(together.len())),
+        Given::More { .. } | Given::Short { .. } | Given::End => {
+            (together.len(), keeping(together.len()))
+        }
     };
-    let cut_alone = held == 0 && given != Given::More;
+    let cut_alone = held == 0 && !matches!(given, Given::More { .. });
     if !cut_alone {
         buffer[..seen].copy_from_slice(&together[..seen]);
     }
@@ -76,7 +87,7 @@ pub fn push(rules: &Rules, stream: Stream, buffer: &mut [u8], cut: &[u8]) -> Str
 /// as the stream goes on.
 fn read(rules: &Rules, held: usize, together: &[u8]) -> Given {
     match frame(rules, together) {
-        FrameAnswer::Refused(1) => Given::More,
+        FrameAnswer::Short { missing } => Given::More { missing },
         FrameAnswer::Refused(number) => Given::Refused(number),
         FrameAnswer::Frame {
             kind,
@@ -114,10 +125,7 @@ pub fn end(rules: &Rules, stream: Stream, buffer: &[u8]) -> StreamAnswer {
         return answer;
     }
     StreamAnswer {
-        given: match stream.held {
-            0 => Given::End,
-            _ => Given::Refused(1),
-        },
+        given: over(rules, &buffer[..stream.held]),
         took: 0,
         next: Stream {
             mark: ENDED,

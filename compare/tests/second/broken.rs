@@ -182,8 +182,20 @@ enum How {
     AcceptsAFrameHeld,
     RepeatsBeforeTen,
     RefusalTenClearsTheState,
+    MissesTheWholeHeader,
+    MissesTheWholeFrame,
+    MissesOneMore,
+    MissesOneLess,
+    MissesTheHeaderAlone,
+    MissesNothing,
+    MoreMissesNothing,
+    MoreCountsTheCutAlone,
+    MoreCountsTheHeldAlone,
+    EndMissesNothing,
+    RepeatedMissesNothing,
 }
 
+/// All but those that get a number of missing bytes wrong.
 const ALL: [How; 43] = [
     How::RefusesEveryFrame,
     How::AnswersHeartbeatAlways,
@@ -228,6 +240,21 @@ const ALL: [How; 43] = [
     How::AcceptsAFrameHeld,
     How::RepeatsBeforeTen,
     How::RefusalTenClearsTheState,
+];
+
+/// Those that get a number of missing bytes wrong, and nothing else.
+const MISSING: [How; 11] = [
+    How::MissesTheWholeHeader,
+    How::MissesTheWholeFrame,
+    How::MissesOneMore,
+    How::MissesOneLess,
+    How::MissesTheHeaderAlone,
+    How::MissesNothing,
+    How::MoreMissesNothing,
+    How::MoreCountsTheCutAlone,
+    How::MoreCountsTheHeldAlone,
+    How::EndMissesNothing,
+    How::RepeatedMissesNothing,
 ];
 
 /// A stream that has stopped at 2.
@@ -283,6 +310,20 @@ impl Broken {
         }
     }
 
+    /// How many bytes are missing to these, broken.
+    fn missing(&self, bytes: &[u8], missing: usize) -> usize {
+        let there = bytes.len();
+        match self.how {
+            How::MissesTheWholeHeader if there < 8 => missing + there,
+            How::MissesTheWholeFrame if there >= 8 => missing + there,
+            How::MissesOneMore => missing + 1,
+            How::MissesOneLess => missing - 1,
+            How::MissesTheHeaderAlone => 8usize.saturating_sub(there),
+            How::MissesNothing => 0,
+            _ => missing,
+        }
+    }
+
     /// A frame of a stream, broken.
     fn break_frame(
         &self,
@@ -309,11 +350,40 @@ impl Broken {
     }
 
     /// A call that lacks bytes, broken.
-    fn break_more(&self, buffer: &mut [u8], cut: &[u8], answer: &mut StreamAnswer) {
+    fn break_more(&self, stream: Stream, buffer: &mut [u8], cut: &[u8], answer: &mut StreamAnswer) {
+        let Given::More { missing } = &mut answer.given else {
+            return;
+        };
         match self.how {
-            How::OneWhileItGoesOn => answer.given = Given::Refused(1),
+            How::MoreMissesNothing => *missing = 0,
+            How::MoreCountsTheCutAlone => *missing = self.lacks(cut).unwrap_or(*missing),
+            How::MoreCountsTheHeldAlone => {
+                *missing = self.lacks(&buffer[..stream.held]).unwrap_or(*missing)
+            }
+            How::OneWhileItGoesOn => answer.given = Given::Short { missing: *missing },
             How::NoBytesAreTheEnd if cut.is_empty() => answer.given = Given::End,
             How::ClearsBehindTheHeld => buffer[answer.next.held..].fill(0),
+            _ => {}
+        }
+    }
+
+    /// How many bytes are missing to these, where they lack some.
+    fn lacks(&self, bytes: &[u8]) -> Option<usize> {
+        match self.second.frame(bytes) {
+            FrameAnswer::Short { missing } => Some(missing),
+            _ => None,
+        }
+    }
+
+    /// A refusal by 1 of a stream, broken.
+    fn break_short(&self, stream: Stream, cut: &[u8], answer: &mut StreamAnswer) {
+        let Given::Short { missing } = &mut answer.given else {
+            return;
+        };
+        match self.how {
+            How::EndMissesNothing if stream.mark == 0 => *missing = 0,
+            How::RepeatedMissesNothing if stream.mark != 0 => *missing = 0,
+            How::StoppedTakesBytes if stream.mark != 0 => answer.took = cut.len(),
             _ => {}
         }
     }
@@ -334,8 +404,8 @@ impl Broken {
             (How::ThreeTakesTheHeader, 3) if stream.mark == 0 => {
                 answer.took = 8usize.saturating_sub(stream.held)
             }
-            (How::StoppedTakesBytes, 1..=3) if stream.mark != 0 => answer.took = cut.len(),
-            (How::AcceptsAnyState, 10) => answer.given = Given::More,
+            (How::StoppedTakesBytes, 2 | 3) if stream.mark != 0 => answer.took = cut.len(),
+            (How::AcceptsAnyState, 10) => answer.given = Given::More { missing: 1 },
             (How::AcceptsAShortBuffer, 10) => {
                 let mut longer = [&*buffer, &[0]].concat();
                 *answer = self.second.push(stream, &mut longer, cut);
@@ -344,7 +414,7 @@ impl Broken {
             (How::AcceptsAFrameHeld, 10) => {
                 let held = buffer.get(..stream.held).unwrap_or(&[]);
                 if let FrameAnswer::Frame { .. } = self.second.frame(held) {
-                    answer.given = Given::More;
+                    answer.given = Given::More { missing: 1 };
                 }
             }
             (How::RepeatsBeforeTen, 10) if matches!(stream.mark, 2 | 3) => {
@@ -359,7 +429,10 @@ impl Broken {
 impl Receiver for Broken {
     fn frame(&self, bytes: &[u8]) -> FrameAnswer {
         match (self.how, self.second.frame(bytes)) {
-            (How::RefusesEveryFrame, _) => FrameAnswer::Refused(1),
+            (How::RefusesEveryFrame, _) => FrameAnswer::Short { missing: 1 },
+            (_, FrameAnswer::Short { missing }) => FrameAnswer::Short {
+                missing: self.missing(bytes, missing),
+            },
             (How::MadeUpFrameLength, FrameAnswer::Frame { kind, from, to, .. }) => {
                 FrameAnswer::Frame {
                     kind,
@@ -385,7 +458,8 @@ impl Receiver for Broken {
         let mut answer = self.second.push(handed, buffer, cut);
         match answer.given {
             Given::Frame { .. } => self.break_frame(stream, buffer, cut, &mut answer),
-            Given::More => self.break_more(buffer, cut, &mut answer),
+            Given::More { .. } => self.break_more(stream, buffer, cut, &mut answer),
+            Given::Short { .. } => self.break_short(stream, cut, &mut answer),
             Given::Refused(_) => self.break_refusal(stream, buffer, cut, &mut answer),
             Given::End if self.is(How::StoppedTakesBytes) => answer.took = cut.len(),
             Given::End => {}
@@ -395,11 +469,12 @@ impl Receiver for Broken {
 
     fn end(&self, stream: Stream, buffer: &mut [u8]) -> StreamAnswer {
         let mut answer = self.second.end(stream, buffer);
-        let left_over = answer.given == Given::Refused(1);
+        let left_over = matches!(answer.given, Given::Short { .. });
         match self.how {
             How::EndsWithBytesLeftOver if left_over => answer.given = Given::End,
             How::EndForgetsWhatIsHeld if left_over => answer.next.held = 0,
             How::EndClearsTheBuffer if left_over => buffer[..stream.held].fill(0),
+            _ if left_over => self.break_short(stream, &[], &mut answer),
             _ if answer.given == Given::Refused(10) => {
                 self.break_refusal(stream, buffer, &[], &mut answer)
             }
@@ -551,16 +626,60 @@ fn the_whole_stream_tells_what_both_get_wrong() {
         How::NoBytesAreTheEnd,
         How::EndsWithBytesLeftOver,
         How::EndForgetsWhatIsHeld,
+        How::EndMissesNothing,
+        How::RepeatedMissesNothing,
     ] {
-        let both = Broken {
-            second: second(),
-            how,
-        };
-        let answer = compare(&both, &both, &both.second.rules, 10_000, SEED);
-        let told = answer.err().map(|difference| difference.to_string());
-        let told = told.unwrap_or_else(|| panic!("{how:?}: no difference"));
+        let told = with_itself(how);
         let call = "\ncall:   the frames of the cuts, and of the whole stream\n";
         assert!(told.contains(call), "{how:?}: {told}");
+    }
+}
+
+/// How the difference of a broken receiver, compared with itself, is told.
+fn with_itself(how: How) -> String {
+    let both = Broken {
+        second: second(),
+        how,
+    };
+    let answer = compare(&both, &both, &both.second.rules, 10_000, SEED);
+    let told = answer.err().map(|difference| difference.to_string());
+    told.unwrap_or_else(|| panic!("{how:?}: no difference"))
+}
+
+/// What two receivers get wrong in the same way of "more", the frame reader
+/// tells of the bytes that are held then.
+#[test]
+fn the_held_bytes_tell_what_both_get_wrong() {
+    for how in [
+        How::MoreMissesNothing,
+        How::MoreCountsTheCutAlone,
+        How::MoreCountsTheHeldAlone,
+    ] {
+        let told = with_itself(how);
+        let call = "\ncall:   what is missing behind push on ";
+        assert!(told.contains(call), "{how:?}: {told}");
+    }
+}
+
+/// An answer with its number of missing bytes left out.
+fn but_missing(answer: &str) -> Option<String> {
+    let (before, behind) = answer.split_once("missing: ")?;
+    let behind = behind.trim_start_matches(|c: char| c.is_ascii_digit());
+    Some(format!("{before}{behind}"))
+}
+
+#[test]
+fn wrong_numbers_of_missing_bytes_are_told() {
+    for how in MISSING {
+        let told = difference(&Broken {
+            second: second(),
+            how,
+        });
+        let told = told.unwrap_or_else(|| panic!("{how:?}: no difference"));
+        println!("{how:?}: {}", told.lines().next().unwrap_or(""));
+        let (first, second) = answers(&told);
+        assert!(but_missing(first).is_some(), "{told}");
+        assert_eq!(but_missing(first), but_missing(second), "{told}");
     }
 }
 
@@ -576,7 +695,7 @@ fn a_difference_tells_input_and_answers() {
         "{told}"
     );
     assert!(
-        told.contains("call:   frame\nfirst:  Refused(1)\nsecond: Frame {"),
+        told.contains("call:   frame\nfirst:  Short { missing: 1 }\nsecond: Frame {"),
         "{told}"
     );
 }

@@ -1,6 +1,7 @@
 //! The rules' cases of frames and records.
 
 use super::{hex, second};
+use compare::inputs::{frame_of, Dice};
 use compare::receiver::{Found, FrameAnswer, Group, ReadAnswer, Receiver, Record};
 
 const HEARTBEAT: &str = "00 00 00 03 00 00 00 00 00 00 00 03";
@@ -23,6 +24,15 @@ fn refused(number: u32, bytes: &[u8]) {
     assert_eq!(
         second().frame(bytes),
         FrameAnswer::Refused(number),
+        "{bytes:02X?}"
+    );
+}
+
+/// Refused by 1, with so many bytes missing.
+fn short(missing: usize, bytes: &[u8]) {
+    assert_eq!(
+        second().frame(bytes),
+        FrameAnswer::Short { missing },
         "{bytes:02X?}"
     );
 }
@@ -51,16 +61,102 @@ fn checksum_is_four_bytes() {
 
 #[test]
 fn short_bytes_are_1() {
-    refused(1, &hex(HEARTBEAT)[..11]);
-    refused(1, &[]);
+    short(1, &hex(HEARTBEAT)[..11]);
+    short(8, &[]);
+}
+
+#[test]
+fn a_cut_header_misses_what_8_bytes_lack() {
+    short(7, &[0]);
+    short(7, &[0xFF]);
+    short(5, &hex("00 00 00"));
+    short(1, &hex("00 00 00 03 00 00 40"));
+    short(1, &[0xFF; 7]);
+}
+
+#[test]
+fn a_cut_frame_misses_what_its_length_lacks() {
+    short(4, &hex("00 00 00 03 00 00 00 00"));
+    short(5, &hex("00 00 00 03 00 00 00 01"));
+    short(16_387, &hex("00 00 00 03 00 00 3F FF"));
+    short(16_388, &hex("00 00 00 03 00 00 40 00"));
+    let bytes = hex(CHANNEL_HEARTBEAT);
+    short(16, &bytes[..8]);
+    short(15, &bytes[..9]);
+    short(4, &bytes[..20]);
+    short(1, &bytes[..23]);
+    let longest = frame_of(7, &[0xAB; 16_384]);
+    short(1, &longest[..16_395]);
 }
 
 #[test]
 fn length_over_the_limit_is_2() {
     refused(2, &hex("00 00 00 03 00 00 40 01"));
-    refused(1, &hex("00 00 00 03 00 00 40 00"));
-    refused(1, &hex("00 00 00 03 00 00 40"));
+    short(16_388, &hex("00 00 00 03 00 00 40 00"));
+    short(1, &hex("00 00 00 03 00 00 40"));
     refused(2, &hex("00 00 00 03 FF FF FF FF"));
+}
+
+/// The bytes of a frame, its checksum right or another, and its L, which may
+/// be above the limit.
+fn a_frame(dice: &mut Dice) -> (Vec<u8>, usize) {
+    let length = match dice.below(50) {
+        0 => 16_384 - dice.below(2) as usize,
+        1..=9 => 0,
+        _ => dice.below(60) as usize,
+    };
+    let mut bytes = frame_of(dice.bits() as u32, &dice.noise(length));
+    match dice.below(4) {
+        0 => *bytes.last_mut().expect("a checksum") ^= 1,
+        1 => {
+            let length = dice.pick(&[16_385, 16_386, 1 << 16, 1 << 31, u32::MAX]);
+            bytes[4..8].copy_from_slice(&length.to_be_bytes());
+            return (bytes, length as usize);
+        }
+        _ => {}
+    }
+    (bytes, length)
+}
+
+/// What bytes read as to which just what was missing has come: behind a
+/// header that was cut 2, or 1 with the L+4 bytes that the frame lacks; behind
+/// a frame that was cut a frame, or 3.
+fn judged_further(there: usize, length: usize, bytes: &[u8]) {
+    match second().frame(bytes) {
+        FrameAnswer::Refused(2) => assert!(there < 8 && length > 16_384),
+        FrameAnswer::Short { missing } => {
+            assert!(there < 8 && length <= 16_384);
+            assert_eq!(missing, length + 4);
+        }
+        FrameAnswer::Frame { size, .. } => assert!(there >= 8 && size == bytes.len()),
+        answer => assert!(there >= 8 && answer == FrameAnswer::Refused(3)),
+    }
+}
+
+#[test]
+fn just_what_is_missing_lets_it_judge_further() {
+    let mut cut = [0; 2];
+    for index in 0..10_000 {
+        let mut dice = Dice::new(20_170_401, index);
+        let (bytes, length) = a_frame(&mut dice);
+        let limit = if dice.one_in(2) { 8 } else { bytes.len() };
+        let there = dice.below(limit as u64) as usize;
+        if there >= 8 && length > 16_384 {
+            refused(2, &bytes[..there]);
+            continue;
+        }
+        let FrameAnswer::Short { missing } = second().frame(&bytes[..there]) else {
+            panic!("not refused by 1: {there} of {} bytes", bytes.len());
+        };
+        assert!(missing > 0);
+        let some = 1 + dice.below(missing as u64) as usize;
+        for fewer in (1..missing).take(100).chain([missing - 1, some - 1]) {
+            short(missing - fewer, &bytes[..there + fewer]);
+        }
+        judged_further(there, length, &bytes[..there + missing]);
+        cut[usize::from(there >= 8)] += 1;
+    }
+    assert!(cut.iter().all(|cases| *cases > 1_000), "{cut:?}");
 }
 
 #[test]

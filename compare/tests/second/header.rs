@@ -110,8 +110,16 @@ fn other_declarations_are_refused() {
             "orizhgum_stream_end(struct orizhgum_stream, uint8_t *, size_t);",
         ),
         (
+            "offsetof(struct orizhgum_stream_answer, took) == 40",
             "offsetof(struct orizhgum_stream_answer, took) == 32",
-            "offsetof(struct orizhgum_stream_answer, took) == 24",
+        ),
+        (
+            "offsetof(struct orizhgum_stream_answer, missing) == 32",
+            "offsetof(struct orizhgum_stream_answer, missing) == 40",
+        ),
+        (
+            "offsetof(struct orizhgum_frame_answer, missing) == 24",
+            "offsetof(struct orizhgum_frame_answer, missing) == 16",
         ),
         (
             "orizhgum_frame(const uint8_t *, size_t);",

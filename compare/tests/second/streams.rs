@@ -84,6 +84,14 @@ fn heartbeat(stands: Stands) -> Given {
     }
 }
 
+fn more(missing: usize) -> Given {
+    Given::More { missing }
+}
+
+fn short(missing: usize) -> Given {
+    Given::Short { missing }
+}
+
 #[test]
 fn a_fresh_stream_holds_nothing() {
     assert_eq!(second().fresh(), Stream { held: 0, mark: 0 });
@@ -93,11 +101,49 @@ fn a_fresh_stream_holds_nothing() {
 fn a_cut_of_no_bytes_is_more() {
     let second = second();
     let mut host = Host::fresh(&second);
-    assert_eq!(host.push(&[]), (Given::More, 0));
+    assert_eq!(host.push(&[]), (more(8), 0));
     host.is(0, 0, &[]);
     host.push(&[0, 0, 0]);
-    assert_eq!(host.push(&[]), (Given::More, 0));
+    assert_eq!(host.push(&[]), (more(5), 0));
     host.is(3, 0, &[0, 0, 0]);
+}
+
+#[test]
+fn more_says_what_held_bytes_and_cut_lack() {
+    let second = second();
+    let bytes = hex(CHANNEL_HEARTBEAT);
+    let mut host = Host::fresh(&second);
+    assert_eq!(host.push(&bytes[..3]), (more(5), 3));
+    assert_eq!(host.push(&bytes[3..7]), (more(1), 4));
+    assert_eq!(host.push(&bytes[7..8]), (more(16), 1));
+    assert_eq!(host.push(&[]), (more(16), 0));
+    assert_eq!(host.push(&bytes[8..20]), (more(4), 12));
+    assert_eq!(host.push(&bytes[20..23]), (more(1), 3));
+    let mut host = Host::fresh(&second);
+    assert_eq!(host.push(&bytes[..8]), (more(16), 8));
+    let mut host = Host::fresh(&second);
+    assert_eq!(host.push(&bytes[..5]), (more(3), 5));
+    assert_eq!(host.push(&bytes[5..10]), (more(14), 5));
+    let mut host = Host::fresh(&second);
+    let most = hex("00 00 00 03 00 00 40 00");
+    assert_eq!(host.push(&most), (more(16_388), 8));
+    // Behind a frame the next one is missing.
+    let mut host = Host::fresh(&second);
+    host.push(&hex(HEARTBEAT));
+    assert_eq!(host.push(&[]), (more(8), 0));
+}
+
+#[test]
+fn one_at_the_end_says_what_held_bytes_lack() {
+    let second = second();
+    let bytes = hex(CHANNEL_HEARTBEAT);
+    for (held, missing) in [(1, 7), (3, 5), (7, 1), (8, 16), (20, 4), (23, 1)] {
+        let mut host = Host::fresh(&second);
+        assert_eq!(host.push(&bytes[..held]), (more(missing), held));
+        assert_eq!(host.end(), short(missing));
+        host.repeats(short(missing));
+        host.is(held, 1, &bytes[..held]);
+    }
 }
 
 #[test]
@@ -115,7 +161,8 @@ fn a_frame_over_two_cuts_stands_in_the_buffer() {
     let bytes = hex(HEARTBEAT);
     for cut in 1..12 {
         let mut host = Host::fresh(&second);
-        assert_eq!(host.push(&bytes[..cut]), (Given::More, cut));
+        let missing = if cut < 8 { 8 - cut } else { 12 - cut };
+        assert_eq!(host.push(&bytes[..cut]), (more(missing), cut));
         host.is(cut, 0, &bytes[..cut]);
         let answer = host.push(&bytes[cut..]);
         assert_eq!(answer, (heartbeat(Stands::InBuffer), 12 - cut));
@@ -152,7 +199,7 @@ fn two_takes_to_the_eighth_byte() {
     host.is(0, 2, &[]);
     for held in 1..8 {
         let mut host = Host::fresh(&second);
-        assert_eq!(host.push(&bytes[..held]), (Given::More, held));
+        assert_eq!(host.push(&bytes[..held]), (more(8 - held), held));
         assert_eq!(host.push(&bytes[held..]), (Given::Refused(2), 8 - held));
         host.is(0, 2, &bytes[..8]);
     }
@@ -167,7 +214,8 @@ fn three_takes_to_the_frames_end() {
     host.is(0, 3, &[]);
     for held in 1..12 {
         let mut host = Host::fresh(&second);
-        assert_eq!(host.push(&bytes[..held]), (Given::More, held));
+        let missing = if held < 8 { 8 - held } else { 12 - held };
+        assert_eq!(host.push(&bytes[..held]), (more(missing), held));
         assert_eq!(host.push(&bytes[held..]), (Given::Refused(3), 12 - held));
         host.is(0, 3, &bytes[..12]);
     }
@@ -178,10 +226,11 @@ fn an_unfinished_frame_is_1_only_at_the_end() {
     let second = second();
     let bytes = hex(HEARTBEAT);
     let mut host = Host::fresh(&second);
-    for byte in &bytes[..11] {
-        assert_eq!(host.push(&[*byte]), (Given::More, 1));
+    let missing = [7, 6, 5, 4, 3, 2, 1, 4, 3, 2, 1];
+    for (byte, missing) in bytes.iter().zip(missing) {
+        assert_eq!(host.push(&[*byte]), (more(missing), 1));
     }
-    assert_eq!(host.end(), Given::Refused(1));
+    assert_eq!(host.end(), short(1));
     host.is(11, 1, &bytes[..11]);
 }
 
@@ -194,8 +243,8 @@ fn after_an_end_every_call_repeats() {
     host.repeats(Given::End);
     let mut host = Host::fresh(&second);
     host.push(&hex(HEARTBEAT)[..9]);
-    assert_eq!(host.end(), Given::Refused(1));
-    host.repeats(Given::Refused(1));
+    assert_eq!(host.end(), short(3));
+    host.repeats(short(3));
 }
 
 #[test]
@@ -227,7 +276,7 @@ fn the_longest_frame_is_kept() {
     assert_eq!(bytes.len(), LONGEST);
     let mut host = Host::fresh(&second);
     let most = LONGEST - 1;
-    assert_eq!(host.push(&bytes[..most]), (Given::More, most));
+    assert_eq!(host.push(&bytes[..most]), (more(1), most));
     host.is(most, 0, &bytes[..most]);
     let whole = Given::Frame {
         stands: Stands::InBuffer,
@@ -290,25 +339,26 @@ fn states_that_calls_lead_to_are_read() {
     let mut host = Host::made_up(&second, 11, 0, &bytes);
     host.buffer.push(0);
     assert_eq!(host.push(&[4]), (Given::Refused(3), 1));
-    Host::made_up(&second, 11, 1, &bytes).repeats(Given::Refused(1));
+    Host::made_up(&second, 11, 1, &bytes).repeats(short(1));
+    Host::made_up(&second, 5, 1, &bytes).repeats(short(3));
     Host::made_up(&second, 0, 1, &bytes).repeats(Given::End);
     Host::made_up(&second, 0, 2, &bytes).repeats(Given::Refused(2));
     Host::made_up(&second, 0, 3, &bytes).repeats(Given::Refused(3));
 }
 
 /// Type and bytes of each frame, and the refusal, if any.
-type Whole = (Vec<(u32, Vec<u8>)>, Option<u32>);
+type Whole = (Vec<(u32, Vec<u8>)>, Option<FrameAnswer>);
 
 /// A capture read at once.
 fn at_once(bytes: &[u8]) -> Whole {
     let (mut frames, mut rest) = (Vec::new(), bytes);
     while !rest.is_empty() {
         match second().frame(rest) {
-            FrameAnswer::Refused(number) => return (frames, Some(number)),
             FrameAnswer::Frame { kind, size, .. } => {
                 frames.push((kind, rest[..size].to_vec()));
                 rest = &rest[size..];
             }
+            refused => return (frames, Some(refused)),
         }
     }
     (frames, None)
@@ -324,7 +374,7 @@ fn in_cuts(receiver: &dyn Receiver, bytes: &[u8], ends: &[usize]) -> Whole {
             let (given, took) = host.push(cut);
             taken += took;
             match given {
-                Given::Refused(number) => return (frames, Some(number)),
+                Given::Refused(number) => return (frames, Some(FrameAnswer::Refused(number))),
                 Given::Frame {
                     stands, kind, size, ..
                 } => {
@@ -335,16 +385,20 @@ fn in_cuts(receiver: &dyn Receiver, bytes: &[u8], ends: &[usize]) -> Whole {
                     frames.push((kind, lent[..size].to_vec()));
                 }
                 _ if cut.is_empty() => break,
-                given => assert_eq!((given, taken), (Given::More, *end)),
+                Given::More { .. } => assert_eq!(taken, *end),
+                given => panic!("{given:?}"),
             }
         }
     }
+    (frames, at_end(&mut host))
+}
+
+/// The refusal at a stream's end, if any.
+fn at_end(host: &mut Host) -> Option<FrameAnswer> {
     match host.end() {
-        Given::End => (frames, None),
-        given => {
-            assert_eq!(given, Given::Refused(1));
-            (frames, Some(1))
-        }
+        Given::End => None,
+        Given::Short { missing } => Some(FrameAnswer::Short { missing }),
+        given => panic!("{given:?}"),
     }
 }
 
@@ -391,6 +445,43 @@ fn every_three_cuts_of_two_frames_give_them() {
                     assert!(cut == whole, "cuts at {one} and {two}");
                 }
             }
+        }
+    }
+}
+
+/// A capture read by a host that hands in just what is missing, as far as it
+/// is there: first a header, then the rest of the frame. So it reads twice a
+/// frame.
+fn as_missing(receiver: &dyn Receiver, bytes: &[u8]) -> Whole {
+    let (mut host, mut frames, mut rest) = (Host::fresh(receiver), Vec::new(), bytes);
+    let (mut missing, mut reads) = (8, 0);
+    while !rest.is_empty() {
+        assert!(reads < 2 * (frames.len() + 1));
+        reads += 1;
+        let (cut, left) = rest.split_at(missing.min(rest.len()));
+        let (given, took) = host.push(cut);
+        assert_eq!(took, cut.len());
+        rest = left;
+        missing = match given {
+            Given::Frame { kind, size, .. } => {
+                frames.push((kind, host.buffer[..size].to_vec()));
+                8
+            }
+            Given::More { missing } => missing,
+            Given::Refused(number) => return (frames, Some(FrameAnswer::Refused(number))),
+            given => panic!("{given:?}"),
+        };
+    }
+    (frames, at_end(&mut host))
+}
+
+#[test]
+fn a_host_reads_what_is_missing() {
+    for path in [captures("list"), captures("show")].concat() {
+        let bytes = fs::read(&path).expect("a capture");
+        for receiver in both() {
+            let read = as_missing(&*receiver, &bytes);
+            assert!(read == at_once(&bytes), "{}", path.display());
         }
     }
 }

@@ -27,6 +27,9 @@ fn walk(
     let (mut text, mut offset, mut frames) = (String::new(), 0, 0);
     while offset < bytes.len() {
         match receiver.frame(&bytes[offset..]) {
+            FrameAnswer::Short { missing } => {
+                return text + &format!("{offset} refused 1 {missing}\n")
+            }
             FrameAnswer::Refused(number) => return text + &format!("{offset} refused {number}\n"),
             FrameAnswer::Frame {
                 kind,

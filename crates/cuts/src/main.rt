@@ -76,7 +76,7 @@ fn found(out: &mut [u8], says: Says, cut: &[u8], buffer: &[u8], before: Progress
     match says {
         Says::InCut(f) => listed(out, cut, f, before),
         Says::InBuffer(f) => listed(out, buffer, f, before),
-        Says::More => before,
+        Says::More { .. } => before,
         Says::End => before,
         Says::Refused(_) => before,
         Says::Malformed => before,
@@ -88,10 +88,22 @@ fn refusal(says: Says) -> u32 {
     match says {
         Says::InCut(_) => answers::PLAIN,
         Says::InBuffer(_) => answers::PLAIN,
-        Says::More => answers::PLAIN,
+        Says::More { .. } => answers::PLAIN,
         Says::End => answers::PLAIN,
         Says::Refused(why) => frame::number(why),
         Says::Malformed => answers::MALFORMED,
+    }
+}
+
+// How many bytes are missing by a refusal, 0 where there is none.
+fn missing(says: Says) -> usize {
+    match says {
+        Says::InCut(_) => 0,
+        Says::InBuffer(_) => 0,
+        Says::More { .. } => 0,
+        Says::End => 0,
+        Says::Refused(why) => frame::missing(why),
+        Says::Malformed => 0,
     }
 }
 
@@ -105,6 +117,7 @@ fn finish(stream: Stream, buffer: &[u8], out: &mut [u8], progress: Progress) -> 
         progress.offset,
         progress.frames,
         refusal(says),
+        missing(says),
     );
     let held = window::flush(out, gathered, GATHERED + 1);
     !held.failed

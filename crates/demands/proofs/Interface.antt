@@ -81,7 +81,7 @@ number-by :
     {A : Type 0} {rs : List Rule} {a : Answer A} (num : Answer A → ℕ) → ((x : A) → NoRefusal (num (accepted x))) →
     ((n : ℕ) (vs : List ℕ) → num (refused n vs) ≡ n) → Judged rs a → NumberBy rs (num a)
 number-by num f g (rules.success {x}) = c.success (f x)
-number-by num f g (rules.here {r} {rs} {vs} w) = subst (NumberBy (r ∷ rs)) (sym (g (r .number) vs)) (c.here w)
+number-by num f g (rules.here {r} {rs} w) = subst (NumberBy (r ∷ rs)) (sym (g (r .number) (r .values))) (c.here w)
 number-by num f g (rules.later n j) = c.later n (number-by num f g j)
 
 told-as : {rs : List Rule} {n m : ℕ} → n ≡ m → NumberBy rs m → NumberBy rs n

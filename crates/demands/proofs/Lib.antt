@@ -17,4 +17,5 @@ pub mod CalledFromC
 pub mod CheckedFromC
 pub mod Interface
 pub mod PlayedFromC
+pub mod Missing
 pub mod Streams

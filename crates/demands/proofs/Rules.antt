@@ -1,19 +1,19 @@
 -- Tests in the order of judging, and the rules that they stand for.
 -- Assumes nothing.
-use Prim.Native.Nat.{ℕ, _+_, _≤_, _<_}
-use mathlib.Core.Path.{_≡_, refl, sym, subst, _∙_}
+use Prim.Native.Nat.{ℕ, _+_, _-_, _≤_, _<_}
+use mathlib.Core.Path.{_≡_, refl, ap, sym, subst, _∙_}
 use mathlib.Core.Bool.{Bool, true, false, not, true≢false}
 use mathlib.Core.Logic.{_↔_}
 use mathlib.Core.List.{List, [], _∷_, _++_}
 use native.Mathlib.Nat.{sub-zero}
 use native.Mathlib.Omega.{arith}
-use borrow.Author.Tests.{ltb-true, ltb-false, eqb-true, eq-eqb, not-true, not-false}
+use borrow.Author.Tests.{lt-ltb, le-ltb, ltb-true, ltb-false, eqb-true, eq-eqb, not-true, not-false}
 use lib.Dec.{ltb, eqb}
 use lib.IntN.{ℤ}
 use lib.ListN.{length}
 use Rattle.wire.specs.Answer.{Answer, accepted, refused, guard}
-use Rattle.wire.specs.Refusal.{notItsLayout, outOfRange}
-use Rattle.frame.specs.Framing.{headerWidth, bodyLimit}
+use Rattle.wire.specs.Refusal.{tooShort, notItsLayout, outOfRange}
+use Rattle.frame.specs.Framing.{headerWidth, sumWidth, bodyLimit}
 use Rattle.frame.specs.declared.Frame.{Frame}
 use Rattle.frame.proofs.Framing.{Reading, no-header, too-long, cut, wrong-sum, whole}
 use Rattle.layout.specs.Layout.{Message, fields, Listed, listed, unlisted}
@@ -27,7 +27,7 @@ use Rattle.bodies.specs.Body.{bodyLength, textSize, stated, exact, allIn}
 use Rattle.writer.specs.Write as writer
 use Rattle.writer.specs.Write.{frameLength, writeJudged}
 use Rattle.demands.specs.Rules.{Rule, _if_, Judged, success, here, later}
-use Rattle.demands.specs.Conditions.{L, BodyShort, Strays, Exactly}
+use Rattle.demands.specs.Conditions.{L, lacks, BodyShort, Strays, Exactly}
 use Rattle.demands.specs.Demand1.{frameRules, writerRules}
 use Rattle.demands.proofs.Out.{strays, keeps, strays-written, keeps-written}
 use Rattle.demands.specs.Demand2.{Accepted, with-value, NoneOf}
@@ -74,7 +74,7 @@ pub in-turn :
     {A B : Type 0} {rs more : List Rule} {a : Answer A} (b : Answer B) → Judged rs a → ((n : ℕ) (vs : List ℕ) → a ≡ refused n vs → b ≡ refused n vs) →
     ((x : A) → a ≡ accepted x → Judged more b) → Judged (rs ++ more) b
 in-turn b (success {x}) r f = f x refl
-in-turn b (here {r = q} {rs} {vs} w) r f = answered (r (q .number) vs refl) (here w)
+in-turn b (here {r = q} w) r f = answered (r (q .number) (q .values) refl) (here w)
 in-turn b (later n j) r f = later n (in-turn b j r f)
 
 pub not-both : {A C : Type 0} {n : ℕ} {vs : List ℕ} → Accepted {A = A} (refused n vs) → C
@@ -88,12 +88,20 @@ accepted-where (later n j) = (λ k. (n, accepted-where j .0 k), λ k. accepted-w
 
 -- ---- the frame reader
 
+-- 1 with how many bytes are missing
+abbrev short : ℕ → Answer Frame
+short n = refused tooShort (n ∷ [])
+
 pub by-reading : (s : List ℕ) (a : Answer Frame) → Reading headerWidth bodyLimit s a → Judged (frameRules s) a
-by-reading s a (no-header i) = here i
+by-reading s a (no-header i) =
+    let m : 8 - length s ≡ lacks s = rw (lt-ltb (length s) 8 i) in
+    answered (ap short m) (here i)
 by-reading s a (too-long i e j) = later (above i) (here (rw e at j))
-by-reading s a (cut i e j k) =
+by-reading s a (cut {n} i e j k) =
     let c : length s < 12 + L s = omega arith in
-    later (above i) (later (above (rw e at j)) (here c))
+    let t : 12 + L s - length s ≡ lacks s = rw (le-ltb (length s) 8 i) in
+    let m : headerWidth + n + sumWidth - length s ≡ lacks s = omega arith in
+    answered (ap short m) (later (above i) (later (above (rw e at j)) (here c)))
 by-reading s a (wrong-sum i e j k w) =
     let c : 12 + L s ≤ length s = omega arith in
     later (above i) (later (above (rw e at j)) (later (above c) (here (rw (e, sub-zero) at w))))

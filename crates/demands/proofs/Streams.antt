@@ -1,36 +1,41 @@
 -- The stream in cuts: the calls' contracts answer as `streams` defines, and so its laws hold of them; and each refusal by its condition.
 -- Assumes nothing.
-use Prim.Native.Nat.{ℕ, zero, suc, _+_, _≤_, _<_}
+use Prim.Native.Nat.{ℕ, zero, suc, _+_, _-_, _≤_, _<_}
 use mathlib.Core.Path.{_≡_, refl, ap, sym, _∙_}
 use mathlib.Core.Bool.{Bool, true, false}
 use mathlib.Core.Logic.{_⊎_, inl, inr, _↔_}
 use mathlib.Core.List.{List, [], _∷_, _++_}
 use native.Mathlib.Nat.{sub-zero}
 use native.Mathlib.Omega.{arith}
+use borrow.Author.Tests.{lt-ltb, le-ltb}
 use lib.Dec.{lit≤, lit<}
-use lib.ListN.{length}
+use lib.ListN.{length, take}
 use Rattle.wire.specs.Answer.{Answer, refused}
 use Rattle.wire.specs.Refusal.{tooShort, tooLong, wrongSum, malformed}
 use Rattle.frame.specs.Framing.{read, headerWidth, bodyLimit}
+use Rattle.frame.specs.Wanting.{endOf, wanting}
 use Rattle.frame.specs.declared.Frame.{Frame}
 use Rattle.frame.specs.declared.Refusal.the-variants.{TooShort, TooLong, WrongSum}
 use Rattle.frame.proofs.Framing.{Reading, no-header, too-long, cut, wrong-sum, whole, view}
-use Rattle.streams.specs.Stream.{going, over, state, Where, Told, unfinished, stands, saidOf, led, readOn, answerAgain, pushed, bufferLeft, ended}
+use Rattle.frame.proofs.Far.{Far, in-header, above, in-body, at-end, far}
+use Rattle.streams.specs.Stream.{going, over, state, Where, Told, unfinished, stands, saidOf, led, readOn, answerAgain, lackedBy, pushed, bufferLeft, ended}
 use Rattle.streams.specs.Cutting.{PushCall, EndCall, PushAs, EndAs}
 use Rattle.streams.specs.Paper.{meansSays, meansPushed}
+use Rattle.streams.specs.Steps.{Holding}
 use Rattle.streams.specs.declared.Stream.{Stream}
 use Rattle.streams.specs.declared.Says.{Says}
 use Rattle.streams.specs.declared.Says.the-variants as says
-use Rattle.streams.proofs.States.{Led, goes, told, stop2, stop3, led-known, push-on, push-over, push-malformed, end-on, end-over, end-malformed}
+use Rattle.streams.proofs.States.{Led, goes, told, stop2, stop3, led-known, held-of, push-on, push-over, push-malformed, end-on, end-over, end-malformed}
 use Rattle.streams.proofs.Readings.{by-2, by-3, stop-again, again-end, again-left}
 use Rattle.streams.proofs.Cuttings.{Answers, cutting, every-cutting}
 use Rattle.streams.proofs.Leading.{takes, ten, repeats, push-ten, end-ten}
+use Rattle.streams.proofs.Missing.{says-missing, two-pushes}
 use Rattle.streams.proofs.Unique.{pushedOf, push-coded, end-coded}
 use Rattle.orizhgum.specs.Streamed.{saidAnswer, streamAnswer}
 use Rattle.demands.specs.CalledFromC.{by-stream-push, by-stream-end}
 use Rattle.demands.specs.Streams.{PushTells, push-tells, EndTells, end-tells, PushTellsC, push-tells-c, EndTellsC, end-tells-c, toldBy, LedTo, InCuts}
-use Rattle.demands.specs.Rules.{Rule, _if_, Judged, success, here, later}
-use Rattle.demands.specs.Conditions.{L, TooLongIn, WrongSumIn, GoesOn, LeftOver}
+use Rattle.demands.specs.Rules.{Rule, _if_, _lacking_provided_, Judged, success, here, later}
+use Rattle.demands.specs.Conditions.{L, lacks, TooLongIn, WrongSumIn, GoesOn, LeftOver}
 use Rattle.demands.specs.Demand1.{pushRules, endRules}
 use Rattle.demands.proofs.Calls.{lent, stream-push-as, stream-end-as, stream-push, stream-end}
 use Rattle.demands.proofs.CalledFromC.{stream-push-from, stream-end-from}
@@ -66,9 +71,9 @@ answers = record { push-as = push-as; push-can = push-can; end-as = end-as; end-
 told-back : (x : Says) (took : ℕ) (next : Stream) → toldBy (saidAnswer (meansSays x) took next) ≡ record { said = meansSays x; took = took; next = next }
 told-back (says.InCut f) took next = refl
 told-back (says.InBuffer f) took next = refl
-told-back says.More took next = refl
+told-back (says.More n) took next = refl
 told-back says.End took next = refl
-told-back (says.Refused TooShort) took next = refl
+told-back (says.Refused (TooShort n)) took next = refl
 told-back (says.Refused TooLong) took next = refl
 told-back (says.Refused WrongSum) took next = refl
 told-back says.Malformed took next = refl
@@ -115,6 +120,8 @@ in-cuts-of x =
       takes = takes headerWidth bodyLimit (lit≤ tt) x;
       ten = ten headerWidth bodyLimit (lit≤ tt) x (lit< tt);
       repeats = repeats headerWidth bodyLimit (lit≤ tt) x;
+      missing = says-missing headerWidth bodyLimit (lit≤ tt) x;
+      two-pushes = two-pushes headerWidth bodyLimit (lit≤ tt) x;
     }
 
 pub in-cuts : InCuts PushTells EndTells
@@ -143,32 +150,42 @@ within s l x = omega (arith, x .1)
 cut-short : (s : List ℕ) → length s < 12 + L s → WrongSumIn s → ⊥
 cut-short s l x = omega (arith, x .0)
 
--- the rules behind 10, of a push
-abbrev onRules : Stream → List ℕ → List Rule
-onRules st s =
-    tooShort if LeftOver st
+-- what held bytes lack
+lacks-far : {s : List ℕ} {w r : ℕ} → Far headerWidth bodyLimit s w r → 0 < w → w ≡ lacks s
+lacks-far {s} (in-header a) z = rw (lt-ltb (length s) 8 a)
+lacks-far (above a b) z = absurd (omega arith)
+lacks-far {s} (in-body a b d) z = let e : endOf headerWidth s - length s ≡ 12 + L s - length s = omega arith in rw (le-ltb (length s) 8 a) e
+lacks-far (at-end a b d) z = absurd (omega arith)
+
+held-lacks : {buffer : List ℕ} {held : ℕ} → Holding headerWidth bodyLimit buffer held → wanting headerWidth bodyLimit (take held buffer) ≡ lacks (take held buffer)
+held-lacks {buffer} {held} k = lacks-far (far headerWidth bodyLimit (take held buffer)) (k .lacks)
+
+-- the rules behind 10, of a push behind the bytes u
+abbrev onRules : Stream → List ℕ → List ℕ → List Rule
+onRules st u s =
+    tooShort lacking lacks u provided LeftOver st
     ∷ tooLong if ((st .mark ≡ tooLong) ⊎ (GoesOn st × TooLongIn s))
     ∷ wrongSum if ((st .mark ≡ wrongSum) ⊎ (GoesOn st × WrongSumIn s))
     ∷ []
 
 -- a stream that goes on, by what held bytes and cut read as
 going-judged :
-    (st : Stream) (s : List ℕ) (w : Where) → st .mark ≡ going → (a : Answer Frame) → Reading headerWidth bodyLimit s a → Judged (onRules st s) (saidOf w a)
-going-judged st s w m _ (no-header i) =
+    (st : Stream) (u s : List ℕ) (w : Where) → st .mark ≡ going → (a : Answer Frame) → Reading headerWidth bodyLimit s a → Judged (onRules st u s) (saidOf w a)
+going-judged st u s w m _ (no-header i) =
     later (on-time st m) (later (no-2 st s m (λ x. omega (arith, x .0))) (later (no-3 st s m (cut-short s (omega arith))) success))
-going-judged st s w m _ (too-long i e j) =
+going-judged st u s w m _ (too-long i e j) =
     let x : (st .mark ≡ tooLong) ⊎ (GoesOn st × TooLongIn s) = inr (m, (i, rw e at j)) in
     later (on-time st m) (here x)
-going-judged st s w m _ (cut i e j k) =
+going-judged st u s w m _ (cut i e j k) =
     let l : L s ≤ bodyLimit = rw e at j in
     let c : length s < 12 + L s = omega arith in
     later (on-time st m) (later (no-2 st s m (within s l)) (later (no-3 st s m (cut-short s c)) success))
-going-judged st s w m _ (wrong-sum i e j k d) =
+going-judged st u s w m _ (wrong-sum i e j k d) =
     let l : L s ≤ bodyLimit = rw e at j in
     let c : 12 + L s ≤ length s = omega arith in
     let x : (st .mark ≡ wrongSum) ⊎ (GoesOn st × WrongSumIn s) = inr (m, (c, rw (e, sub-zero) at d)) in
     later (on-time st m) (later (no-2 st s m (within s l)) (here x))
-going-judged st s w m _ (whole i) =
+going-judged st u s w m _ (whole i) =
     let l : L s ≤ bodyLimit = rw (i .len) at (i .within) in
     let right : WrongSumIn s → ⊥ = λ x. x .1 (rw (i .len, sub-zero) at (i .sum)) in
     later (on-time st m) (later (no-2 st s m (within s l)) (later (no-3 st s m right) success))
@@ -176,9 +193,9 @@ going-judged st s w m _ (whole i) =
 -- one that is over, by its mark
 over-judged :
     {buffer : List ℕ} {mark held : ℕ} (s : List ℕ) → Led headerWidth bodyLimit buffer mark held → (mark ≡ going → ⊥) →
-    Judged (onRules (state mark held) s) (answerAgain (state mark held))
+    Judged (onRules (state mark held) (take held buffer) s) (answerAgain (wanting headerWidth bodyLimit (take held buffer)) (state mark held))
 over-judged s (goes k) m = absurd (m refl)
-over-judged s (told {held} k) m = by held where
+over-judged {buffer} s (told {held} k) m = rw (held-lacks k) (by held (take held buffer)) where
   none-2 : (held : ℕ) → (over ≡ tooLong) ⊎ (GoesOn (state over held) × TooLongIn s) → ⊥
   none-2 held (inl e) = omega arith
   none-2 held (inr x) = omega (arith, x .0)
@@ -187,15 +204,15 @@ over-judged s (told {held} k) m = by held where
   none-3 held (inl e) = omega arith
   none-3 held (inr x) = omega (arith, x .0)
 
-  by : (held : ℕ) → Judged (onRules (state over held) s) (answerAgain (state over held))
-  by zero = answered (again-end zero refl) (later none-held (later (none-2 zero) (later (none-3 zero) success))) where
+  by : (held : ℕ) (u : List ℕ) → Judged (onRules (state over held) u s) (answerAgain (lacks u) (state over held))
+  by zero u = answered (again-end _ zero refl) (later none-held (later (none-2 zero) (later (none-3 zero) success))) where
     none-held : LeftOver (state over zero) → ⊥
     none-held x = omega (arith, x .1)
-  by (suc n) = answered (again-left (suc n) (λ z. omega arith)) (here (refl, omega arith))
-over-judged s (stop2 b) m = answered (stop-again by-2) (later none (here (inl refl))) where
+  by (suc n) u = answered (again-left _ (suc n) (λ z. omega arith)) (here (refl, omega arith))
+over-judged s (stop2 b) m = answered (stop-again _ by-2) (later none (here (inl refl))) where
   none : LeftOver (state tooLong 0) → ⊥
   none x = omega (arith, x .1)
-over-judged s (stop3 b) m = answered (stop-again by-3) (later none (later none-2 (here (inl refl)))) where
+over-judged s (stop3 b) m = answered (stop-again _ by-3) (later none (later none-2 (here (inl refl)))) where
   none : LeftOver (state wrongSum 0) → ⊥
   none x = omega (arith, x .1)
 
@@ -221,7 +238,7 @@ push-judged st buffer c = by (led headerWidth bodyLimit st buffer) refl (st .mar
   by true e zero m =
       later (λ n. push-ten headerWidth bodyLimit (lit≤ tt) st buffer c e (ten-here .1 n))
       (answered (ap (λ (t : Told). t .said) (push-on headerWidth bodyLimit buffer st c e m .0) ∙ on-said (unfinished st buffer) c)
-      (going-judged st (unfinished st buffer ++ c) (stands (unfinished st buffer)) m _ (view headerWidth bodyLimit (unfinished st buffer ++ c))))
+      (going-judged st (unfinished st buffer) (unfinished st buffer ++ c) (stands (unfinished st buffer)) m _ (view headerWidth bodyLimit (unfinished st buffer ++ c))))
   by true e (suc k) m =
       let z : st .mark ≡ going → ⊥ = λ o. omega arith in
       later (λ n. push-ten headerWidth bodyLimit (lit≤ tt) st buffer c e (ten-here .1 n))
@@ -231,14 +248,16 @@ push-judged st buffer c = by (led headerWidth bodyLimit st buffer) refl (st .mar
 -- ---- the end
 
 -- the rules behind 10
-abbrev overRules : Stream → List Rule
-overRules st =
-    tooShort if (LeftOver st ⊎ (GoesOn st × (0 < st .held))) ∷ tooLong if (st .mark ≡ tooLong) ∷ wrongSum if (st .mark ≡ wrongSum) ∷ []
+abbrev overRules : Stream → List ℕ → List Rule
+overRules st u =
+    tooShort lacking lacks u provided (LeftOver st ⊎ (GoesOn st × (0 < st .held))) ∷ tooLong if (st .mark ≡ tooLong) ∷ wrongSum if (st .mark ≡ wrongSum) ∷ []
 
 -- of a stream that goes on, or was told to have ended
-end-open : (st : Stream) (held : ℕ) → st .held ≡ held → (st .mark ≡ going) ⊎ (st .mark ≡ over) → Judged (overRules st) (answerAgain (state over (st .held)))
-end-open st zero z m =
-    answered (again-end (st .held) z) (later none (later (not-2 m) (later (not-3 m) success))) where
+end-open :
+    (st : Stream) (u : List ℕ) (held : ℕ) → st .held ≡ held → (st .mark ≡ going) ⊎ (st .mark ≡ over) →
+    Judged (overRules st u) (answerAgain (lacks u) (state over (st .held)))
+end-open st u zero z m =
+    answered (again-end _ (st .held) z) (later none (later (not-2 m) (later (not-3 m) success))) where
       not-2 : (st .mark ≡ going) ⊎ (st .mark ≡ over) → st .mark ≡ tooLong → ⊥
       not-2 (inl e) d = omega arith
       not-2 (inr e) d = omega arith
@@ -250,7 +269,7 @@ end-open st zero z m =
       none : LeftOver st ⊎ (GoesOn st × (0 < st .held)) → ⊥
       none (inl x) = omega (arith, x .1)
       none (inr x) = omega (arith, x .1)
-end-open st (suc n) z m = answered (again-left (st .held) (λ y. omega arith)) (here (by m)) where
+end-open st u (suc n) z m = answered (again-left _ (st .held) (λ y. omega arith)) (here (by m)) where
   by : (st .mark ≡ going) ⊎ (st .mark ≡ over) → LeftOver st ⊎ (GoesOn st × (0 < st .held))
   by (inl e) = inr (e, omega arith)
   by (inr e) = inl (e, omega arith)
@@ -258,14 +277,14 @@ end-open st (suc n) z m = answered (again-left (st .held) (λ y. omega arith)) (
 -- of one that was over before
 end-over-judged :
     {buffer : List ℕ} {mark held : ℕ} → Led headerWidth bodyLimit buffer mark held → (mark ≡ going → ⊥) →
-    Judged (overRules (state mark held)) (answerAgain (state mark held))
+    Judged (overRules (state mark held) (take held buffer)) (answerAgain (wanting headerWidth bodyLimit (take held buffer)) (state mark held))
 end-over-judged (goes k) m = absurd (m refl)
-end-over-judged (told {held} k) m = end-open (state over held) held refl (inr refl)
-end-over-judged (stop2 b) m = answered (stop-again by-2) (later none (here refl)) where
+end-over-judged {buffer} (told {held} k) m = rw (held-lacks k) (end-open (state over held) (take held buffer) held refl (inr refl))
+end-over-judged (stop2 b) m = answered (stop-again _ by-2) (later none (here refl)) where
   none : LeftOver (state tooLong 0) ⊎ (GoesOn (state tooLong 0) × (0 < 0)) → ⊥
   none (inl x) = omega (arith, x .1)
   none (inr x) = omega (arith, x .1)
-end-over-judged (stop3 b) m = answered (stop-again by-3) (later none (later (λ e. omega arith) (here refl))) where
+end-over-judged (stop3 b) m = answered (stop-again _ by-3) (later none (later (λ e. omega arith) (here refl))) where
   none : LeftOver (state wrongSum 0) ⊎ (GoesOn (state wrongSum 0) × (0 < 0)) → ⊥
   none (inl x) = omega (arith, x .1)
   none (inr x) = omega (arith, x .1)
@@ -282,8 +301,11 @@ end-judged st buffer = by (led headerWidth bodyLimit st buffer) refl (st .mark) 
       let p = ap (λ (t : Told). t .said) (end-malformed headerWidth bodyLimit buffer st e) in
       answered p (here (ten-here .0 p))
   by true e zero m =
+      let l : Judged (overRules st (unfinished st buffer)) (answerAgain (lackedBy headerWidth bodyLimit st buffer) (state over (st .held))) =
+      rw (held-lacks (held-of headerWidth bodyLimit buffer st e m)) (end-open st (unfinished st buffer) (st .held) refl (inl m))
+      in
       later (λ n. end-ten headerWidth bodyLimit (lit≤ tt) st buffer e (ten-here .1 n))
-      (answered (ap (λ (t : Told). t .said) (end-on headerWidth bodyLimit buffer st e m)) (end-open st (st .held) refl (inl m)))
+      (answered (ap (λ (t : Told). t .said) (end-on headerWidth bodyLimit buffer st e m)) l)
   by true e (suc k) m =
       let z : st .mark ≡ going → ⊥ = λ o. omega arith in
       later (λ n. end-ten headerWidth bodyLimit (lit≤ tt) st buffer e (ten-here .1 n))

@@ -1,10 +1,11 @@
 -- When a refusal is given: each condition by itself, over offsets, places and numbers.
 -- Assumes nothing.
-use Prim.Native.Nat.{ℕ, suc, _+_, _*_, _≤_, _<_}
+use Prim.Native.Nat.{ℕ, suc, _+_, _-_, _*_, _≤_, _<_}
 use mathlib.Core.Path.{_≡_}
-use mathlib.Core.Bool.{false}
+use mathlib.Core.Bool.{false, cond}
 use mathlib.Core.Logic.{_⊎_}
 use mathlib.Core.List.{List, [], _∷_}
+use lib.Dec.{ltb}
 use lib.IntN.{ℤ, pos}
 use lib.ListN.{length, take, getD}
 use lib.Signed.{_<ℤ_}
@@ -28,6 +29,10 @@ use Rattle.demands.specs.Play.{channelOf}
 -- F2: L, the body length that the header states
 abbrev pub L : List ℕ → ℕ
 L s = beAt s 4 4
+
+-- F8: what bytes lack that are no whole frame: of a header, else of the frame
+abbrev pub lacks : List ℕ → ℕ
+lacks s = cond (ltb (length s) 8) (8 - length s) (12 + L s - length s)
 
 -- R3: the four bytes behind the body are not the sum of all before them
 abbrev pub SumDiffers : List ℕ → Type 0

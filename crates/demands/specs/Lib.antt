@@ -12,4 +12,5 @@ pub mod Receiver
 pub mod CalledFromC
 pub mod CheckedFromC
 pub mod Interface
+pub mod Missing
 pub mod Streams

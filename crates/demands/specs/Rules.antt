@@ -6,20 +6,26 @@ use mathlib.Core.Logic.{_↔_}
 use mathlib.Core.List.{List, [], _∷_}
 use Rattle.wire.specs.Answer.{Answer, accepted, refused}
 
--- a refusal's number, and when it is given
+-- a refusal's number, the values that go with it, and when it is given
 pub record Rule : Type 1 where
   pub number : ℕ
+  pub values : List ℕ
   pub when : Type 0
 
--- a refusal's number, given where a condition holds
+-- J6: a refusal's number, given where a condition holds, without a value
 infix 70 _if_
 abbrev pub _if_ : ℕ → Type 0 → Rule
-n if c = record { number = n; when = c }
+n if c = record { number = n; values = []; when = c }
 
--- D12: the answer is the refusal of the first rule whose condition holds, and a success exactly where none does
+-- F8: the same with how many bytes are missing
+infix 70 _lacking_provided_
+abbrev pub _lacking_provided_ : ℕ → ℕ → Type 0 → Rule
+n lacking m provided c = record { number = n; values = m ∷ []; when = c }
+
+-- D12: the answer is the refusal of the first rule whose condition holds, with its values, and a success exactly where none does
 pub data Judged {A : Type 0} : List Rule → Answer A → Type 1 where
   success : {x : A} → Judged [] (accepted x)
-  here : {r : Rule} {rs : List Rule} {vs : List ℕ} → r .when → Judged (r ∷ rs) (refused (r .number) vs)
+  here : {r : Rule} {rs : List Rule} → r .when → Judged (r ∷ rs) (refused (r .number) (r .values))
   later : {r : Rule} {rs : List Rule} {a : Answer A} → (r .when → ⊥) → Judged rs a → Judged (r ∷ rs) a
 
 -- A2, Q3, J8: judged by the rules; and behind them "no such entry" or "nothing missing", exactly where there is none

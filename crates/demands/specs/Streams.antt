@@ -3,7 +3,7 @@
 -- Assumes nothing.
 use Prim.Native.Nat.{ℕ}
 use mathlib.Core.Bool.{cond}
-use mathlib.Core.List.{List, []}
+use mathlib.Core.List.{List, [], _∷_}
 use lib.Dec.{eqb}
 use Rattle.wire.specs.Answer.{Answer, accepted, refused}
 use Rattle.wire.specs.Number.{plain, moreNumber, endNumber}
@@ -11,6 +11,7 @@ use Rattle.frame.specs.Framing.{headerWidth, bodyLimit}
 use Rattle.streams.specs.Stream.{Where, inCut, inBuffer, Said, frame, more, end, Told}
 use Rattle.streams.specs.Cutting.{PushCall, EndCall, Cutting, EveryCutting}
 use Rattle.streams.specs.Leads.{Leads, Takes, Ten, Repeats}
+use Rattle.streams.specs.Missing.{SaysMissing, TwoPushes}
 use Rattle.streams.specs.Paper.{meansPushed}
 use Rattle.streams.specs.declared.Stream.{Stream}
 use Rattle.streams.specs.declared.Pushed.{Pushed}
@@ -18,6 +19,7 @@ use Rattle.orizhgum.specs.Streamed.{whereNumber}
 use Rattle.orizhgum.specs.declared.streamed.StreamAnswer.{StreamAnswer}
 use Rattle.demands.specs.Calls.{StreamPush, StreamEnd}
 use Rattle.demands.specs.CalledFromC.{StreamPushFromC, StreamEndFromC}
+use Rattle.demands.specs.Missing.{valuesBy}
 
 -- ---- the library's calls
 
@@ -43,9 +45,9 @@ whereBy r = cond (eqb (r .stands) (whereNumber inCut)) inCut inBuffer
 abbrev pub saidBy : StreamAnswer → Answer Said
 saidBy r =
     cond (eqb (r .answer) plain) (accepted (frame (whereBy r) (record { kind = r .kind; len = r .len; total = r .total })))
-    (cond (eqb (r .answer) moreNumber) (accepted (more []))
+    (cond (eqb (r .answer) moreNumber) (accepted (more (r .missing ∷ [])))
     (cond (eqb (r .answer) endNumber) (accepted end)
-    (refused (r .answer) [])))
+    (refused (r .answer) (valuesBy (r .answer) (r .missing)))))
 
 abbrev pub toldBy : StreamAnswer → Told
 toldBy r = record { said = saidBy r; took = r .took; next = r .next }
@@ -60,11 +62,14 @@ pub data EndTellsC : Stream → List ℕ → Told → Type 0 where
 
 -- ---- what is said of either
 
--- S4, D51, D52, D53: every cutting gives what the whole stream gives, and is played; no call takes more than the cut, and an empty one changes
--- nothing; 10 exactly for the states that no calls lead to; refusals and ends are repeated
+-- S4, D51, D52, D53, D54: every cutting gives what the whole stream gives, and is played; no call takes more than the cut, and an empty one
+-- changes nothing; 10 exactly for the states that no calls lead to; refusals and ends are repeated; what is missing is what the frame reader says,
+-- and a host that hands in just so much makes two pushes a frame at most
 pub record InCuts (Push : PushCall) (End : EndCall) : Type 0 where
   pub cutting : Cutting headerWidth bodyLimit Push End
   pub every-cutting : EveryCutting headerWidth bodyLimit Push End
   pub takes : Takes headerWidth bodyLimit Push End
   pub ten : Ten headerWidth bodyLimit Push End
   pub repeats : Repeats Push End
+  pub missing : SaysMissing headerWidth bodyLimit Push End
+  pub two-pushes : TwoPushes headerWidth bodyLimit Push

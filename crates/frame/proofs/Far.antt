@@ -1,10 +1,10 @@
 -- How much is missing, and how far a reading goes: case by case, and with bytes behind.
 -- Assumes nothing.
-use Prim.Native.Nat.{ℕ, _+_, _-_, _≤_, _<_}
-use mathlib.Core.Path.{_≡_, refl, sym, _∙_}
+use Prim.Native.Nat.{ℕ, zero, suc, _+_, _-_, _≤_, _<_}
+use mathlib.Core.Path.{_≡_, refl, ap, sym, _∙_}
 use mathlib.Core.Bool.{Bool, true, false}
 use mathlib.Core.Logic.{⊎-elim}
-use mathlib.Core.List.{List, [], _++_}
+use mathlib.Core.List.{List, [], _∷_, _++_}
 use native.Mathlib.Omega.{arith}
 use borrow.Author.Tests.{le-ltb, lt-ltb, ltb-true, ltb-false}
 use lib.Dec.{ltb}
@@ -13,8 +13,8 @@ use lib.Seq.{length-take-le}
 use Rattle.wire.specs.Answer.{Answer, accepted, refused, RefusedBy, with-values}
 use Rattle.wire.specs.Refusal.{tooShort}
 use Rattle.wire.proofs.Be.{beAt-behind}
-use Rattle.frame.specs.Framing.{sumWidth, lengthOf, read}
-use Rattle.frame.specs.Wanting.{endOf, wanting, reach}
+use Rattle.frame.specs.Framing.{sumWidth, lengthOf, read, missingBy}
+use Rattle.frame.specs.Wanting.{endOf, missingIn, wanting, reach}
 use Rattle.frame.specs.declared.Frame.{Frame}
 use Rattle.frame.proofs.Framing.{known-of, Reading, no-header, too-long, cut, wrong-sum, whole, view, read-as, under, unchanged-behind}
 
@@ -27,15 +27,21 @@ pub data Far (h limit : ℕ) (s : List ℕ) : ℕ → ℕ → Type 0 where
   in-body : h ≤ length s → lengthOf h s ≤ limit → length s < endOf h s → Far h limit s (endOf h s - length s) (length s)
   at-end : h ≤ length s → lengthOf h s ≤ limit → endOf h s ≤ length s → Far h limit s 0 (endOf h s)
 
+-- a frame that is there has no 1
+there : {h limit : ℕ} {s : List ℕ} {x : Answer Frame} → Reading h limit s x → h ≤ length s → endOf h s ≤ length s → missingIn x ≡ 0
+there (no-header i) a d = absurd (omega arith)
+there (too-long i p j) a d = refl
+there (cut i p j k) a d = absurd (omega arith)
+there (wrong-sum i p j k w) a d = refl
+there (whole f) a d = refl
+
 module _ {h limit : ℕ} {s : List ℕ} where
   pub wants : {w r : ℕ} → Far h limit s w r → wanting h limit s ≡ w
   unfolding wanting
-  wants (in-header a) = rw (lt-ltb (length s) h a)
-  wants (above a b) = rw (le-ltb (length s) h a, lt-ltb limit (lengthOf h s) b)
-  wants (in-body a b d) = rw (le-ltb (length s) h a, le-ltb limit (lengthOf h s) b)
-  wants (at-end a b d) =
-      let z : endOf h s - length s ≡ 0 = omega arith in
-      rw (le-ltb (length s) h a, le-ltb limit (lengthOf h s) b) z
+  wants (in-header a) = ap missingIn (read-as (no-header a))
+  wants (above a b) = ap missingIn (read-as (too-long a refl b))
+  wants (in-body a b d) = ap missingIn (read-as (cut a refl b d))
+  wants (at-end a b d) = there (view h limit s) a d
 
   pub reaches : {w r : ℕ} → Far h limit s w r → reach h limit s ≡ r
   unfolding reach
@@ -43,6 +49,11 @@ module _ {h limit : ℕ} {s : List ℕ} where
   reaches (above a b) = rw (le-ltb (length s) h a, lt-ltb limit (lengthOf h s) b)
   reaches (in-body a b d) = rw (le-ltb (length s) h a, le-ltb limit (lengthOf h s) b, lt-ltb (length s) (endOf h s) d)
   reaches (at-end a b d) = rw (le-ltb (length s) h a, le-ltb limit (lengthOf h s) b, le-ltb (length s) (endOf h s) d)
+
+-- a refusal says what is missing
+pub wanting-of : (h limit : ℕ) (s : List ℕ) {n : ℕ} {vs : List ℕ} → read h limit s ≡ refused n vs → wanting h limit s ≡ missingBy vs
+unfolding wanting
+wanting-of h limit s e = ap missingIn e
 
 -- whatever the bytes are, one of the cases holds
 by-tests :
@@ -77,20 +88,20 @@ within (at-end a b d) = d
 pub reach-within : (h limit : ℕ) (s : List ℕ) → reach h limit s ≤ length s
 reach-within h limit s = within (far h limit s)
 
--- something is missing exactly where refusal 1 is given
-short-far : {h limit : ℕ} {s : List ℕ} {w r : ℕ} → Far h limit s w r → 0 < w → Reading h limit s (refused tooShort [])
+-- something is missing exactly where refusal 1 is given, with so many bytes
+short-far : {h limit : ℕ} {s : List ℕ} {w r : ℕ} → Far h limit s w r → 0 < w → Reading h limit s (refused tooShort (w ∷ []))
 short-far (in-header a) l = no-header a
 short-far (above a b) l = absurd (omega arith)
 short-far (in-body a b d) l = cut a refl b d
 short-far (at-end a b d) l = absurd (omega arith)
 
-pub missing : (h limit : ℕ) (s : List ℕ) → 0 < wanting h limit s → read h limit s ≡ refused tooShort []
+pub missing : (h limit : ℕ) (s : List ℕ) → 0 < wanting h limit s → read h limit s ≡ refused tooShort (wanting h limit s ∷ [])
 missing h limit s l = read-as (short-far (far h limit s) l)
 
-not-short : {n : ℕ} {a : Answer Frame} {vs : List ℕ} → a ≡ refused n vs → (n ≡ tooShort → ⊥) → RefusedBy tooShort a → ⊥
+pub not-short : {n : ℕ} {a : Answer Frame} {vs : List ℕ} → a ≡ refused n vs → (n ≡ tooShort → ⊥) → RefusedBy tooShort a → ⊥
 not-short e z (with-values us) = z (cc)
 
-not-refused : {a : Answer Frame} {f : Frame} → a ≡ accepted f → RefusedBy tooShort a → ⊥
+pub not-refused : {a : Answer Frame} {f : Frame} → a ≡ accepted f → RefusedBy tooShort a → ⊥
 not-refused e (with-values us) = let z : _≡_ {A = ℕ} 0 1 = cc in omega arith
 
 judged-far : {h limit : ℕ} {s : List ℕ} {w r : ℕ} → Far h limit s w r → w ≡ 0 → RefusedBy tooShort (read h limit s) → ⊥
@@ -107,6 +118,12 @@ judged-far {h} {limit} {s} (at-end a b d) e = by-reading (view h limit s) where
 
 pub judged : (h limit : ℕ) (s : List ℕ) → wanting h limit s ≡ 0 → RefusedBy tooShort (read h limit s) → ⊥
 judged h limit s e = judged-far (far h limit s) e
+
+pub lacks : (h limit : ℕ) (s : List ℕ) → RefusedBy tooShort (read h limit s) → 0 < wanting h limit s
+lacks h limit s r = by (wanting h limit s) refl where
+  by : (w : ℕ) → wanting h limit s ≡ w → 0 < wanting h limit s
+  by zero e = absurd (judged h limit s e r)
+  by (suc w) e = omega arith
 
 -- ---- with bytes behind
 

@@ -89,14 +89,15 @@ fn put(out: &[u8], gathered: usize) {
     }
 }
 
-// The last line, and all that is gathered.
-fn finish(out: &mut [u8], progress: Progress) {
+// The last line, and all that is gathered. The bytes that are left tell what is missing, where they are a cut frame.
+fn finish(left: &[u8], out: &mut [u8], progress: Progress) {
     let held = text::last_line(
         out,
         progress.gathered,
         progress.offset,
         progress.frames,
         progress.refused,
+        frame::wanting(left),
     );
     put(out, held);
 }
@@ -128,14 +129,14 @@ fn list(bytes: &mut [u8], out: &mut [u8]) {
             output_failed();
             return;
         }
+        let from = progress.from;
         if (now_held == held) | (1 < progress.refused) {
-            finish(out, progress);
+            finish(&bytes[from..now_held], out, progress);
             return;
         }
-        let from = progress.from;
         held = window::slide(bytes, from, now_held);
     }
-    finish(out, progress);
+    finish(&bytes[0..held], out, progress);
 }
 
 fn main() {

@@ -13,13 +13,15 @@ pub mod requested;
 pub mod streamed;
 pub mod written;
 
-// The frame that some bytes begin with: its type, the body's length and the length of the frame; zeros where it is refused.
+// The frame that some bytes begin with: its type, the body's length and the length of the frame; zeros where it is refused, but for
+// how many bytes are missing.
 #[repr(C)]
 pub struct FrameAnswer {
     pub answer: u32,
     pub kind: u32,
     pub len: usize,
     pub total: usize,
+    pub missing: usize,
 }
 
 #[no_mangle]
@@ -32,12 +34,14 @@ pub extern "C" fn orizhgum_frame(bytes: &[u8]) -> FrameAnswer
             kind: f.kind,
             len: f.len,
             total: f.total,
+            missing: 0,
         },
         Framed::Refused(why) => FrameAnswer {
             answer: frame::number(why),
             kind: 0,
             len: 0,
             total: 0,
+            missing: frame::missing(why),
         },
     }
 }

@@ -15,7 +15,7 @@ const IN_CUT: u32 = 1;
 const IN_BUFFER: u32 = 2;
 
 // What a call finds, with the frame's type, the body's length and the length of the frame, zeros where there is none; how many bytes
-// of the cut it took, and the next state.
+// are missing, how many of the cut it took, and the next state.
 #[repr(C)]
 pub struct StreamAnswer {
     pub answer: u32,
@@ -23,13 +23,14 @@ pub struct StreamAnswer {
     pub kind: u32,
     pub len: usize,
     pub total: usize,
+    pub missing: usize,
     pub took: usize,
     pub next: Stream,
 }
 
 // An answer without a frame.
-fn no_frame(answer: u32, took: usize, next: Stream) -> StreamAnswer
-    ensures { λ r. ⌜ r ≡ noFrameTold answer took next ⌝ }
+fn no_frame(answer: u32, missing: usize, took: usize, next: Stream) -> StreamAnswer
+    ensures { λ r. ⌜ r ≡ noFrameTold answer missing took next ⌝ }
 {
     StreamAnswer {
         answer,
@@ -37,6 +38,7 @@ fn no_frame(answer: u32, took: usize, next: Stream) -> StreamAnswer
         kind: 0,
         len: 0,
         total: 0,
+        missing,
         took,
         next,
     }
@@ -56,6 +58,7 @@ fn told(answer: Pushed) -> StreamAnswer
             kind: f.kind,
             len: f.len,
             total: f.total,
+            missing: 0,
             took,
             next,
         },
@@ -65,13 +68,14 @@ fn told(answer: Pushed) -> StreamAnswer
             kind: f.kind,
             len: f.len,
             total: f.total,
+            missing: 0,
             took,
             next,
         },
-        Says::More => no_frame(answers::MORE, took, next),
-        Says::End => no_frame(answers::END, took, next),
-        Says::Refused(why) => no_frame(frame::number(why), took, next),
-        Says::Malformed => no_frame(answers::MALFORMED, took, next),
+        Says::More { missing } => no_frame(answers::MORE, missing, took, next),
+        Says::End => no_frame(answers::END, 0, took, next),
+        Says::Refused(why) => no_frame(frame::number(why), frame::missing(why), took, next),
+        Says::Malformed => no_frame(answers::MALFORMED, 0, took, next),
     }
 }
 

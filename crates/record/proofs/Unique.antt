@@ -9,6 +9,7 @@ use lib.IntN.{ℤ, pos, natAbs}
 use lib.ListN.{getD}
 use Rattle.wire.specs.Answer.{Answer, accepted, refused}
 use Rattle.wire.specs.Refusal.{tooShort, tooLong, wrongSum}
+use Rattle.frame.specs.Framing.{missingBy}
 use Rattle.frame.specs.declared.Refusal as frame-refusal
 use Rattle.layout.specs.Layout.{heartbeat, channelHeartbeat, resend, statistics, securityStatus, snapshot, index, volumeIndex, order, trade}
 use Rattle.layout.specs.declared.group.Refusal.the-variants.{NotItsLayout, OutOfRange}
@@ -161,21 +162,21 @@ one-reading a b e =
 
 -- ---- a frame
 
-code-frame-refusal : ℕ → frame-answer.FrameAnswer
-code-frame-refusal x =
-    cond (eqb x tooShort) (frame-answer.the-variants.Frame frame-refusal.the-variants.TooShort)
+code-frame-refusal : ℕ → List ℕ → frame-answer.FrameAnswer
+code-frame-refusal x vs =
+    cond (eqb x tooShort) (frame-answer.the-variants.Frame (frame-refusal.the-variants.TooShort (missingBy vs)))
     (cond (eqb x tooLong) (frame-answer.the-variants.Frame frame-refusal.the-variants.TooLong)
     (cond (eqb x wrongSum) (frame-answer.the-variants.Frame frame-refusal.the-variants.WrongSum)
     (frame-answer.the-variants.Body (code-refusal x))))
 
 code-frame-of : Answer record-of.Reading → frame-answer.FrameAnswer
 code-frame-of (accepted r) = frame-answer.the-variants.Read (code-record r)
-code-frame-of (refused x vs) = code-frame-refusal x
+code-frame-of (refused x vs) = code-frame-refusal x vs
 
 back-frame : (a : frame-answer.FrameAnswer) → code-frame-of (meansFrameAnswer a) ≡ a
 unfolding code-frame-of code-frame-refusal
 back-frame (frame-answer.the-variants.Read r) = ap frame-answer.the-variants.Read (back-record r)
-back-frame (frame-answer.the-variants.Frame frame-refusal.the-variants.TooShort) = refl
+back-frame (frame-answer.the-variants.Frame (frame-refusal.the-variants.TooShort n)) = refl
 back-frame (frame-answer.the-variants.Frame frame-refusal.the-variants.TooLong) = refl
 back-frame (frame-answer.the-variants.Frame frame-refusal.the-variants.WrongSum) = refl
 back-frame (frame-answer.the-variants.Body NotItsLayout) = refl

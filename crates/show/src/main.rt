@@ -17,6 +17,7 @@ use frame::Framed;
 use layout::TEXT_ROOM;
 use record::Record;
 use window::Held;
+use wire::answers;
 use words::Line;
 
 // The window that slides over the input holds the longest frame several times, so that reads are few.
@@ -270,19 +271,33 @@ fn show_window(bytes: &[u8], out: &mut [u8], table: &[u8], start: Progress) -> P
     }
 }
 
-// The last line, as the listing's.
-fn last(progress: Progress) -> Line {
+// The last line, as the listing's. The bytes that are left tell what is missing, where they are a cut frame.
+fn last(left: &[u8], progress: Progress) -> Line {
     let offset = wire::signed(progress.offset);
     let frames = wire::signed(progress.frames);
     if progress.refused == 0 {
         return words::short([0u8; TEXT_ROOM], table::END, offset, frames, 0, 0, 0, 0);
     }
+    let refused = progress.refused as i64;
+    if progress.refused != answers::TOO_SHORT {
+        return words::short(
+            [0u8; TEXT_ROOM],
+            table::REFUSED,
+            offset,
+            refused,
+            0,
+            0,
+            0,
+            0,
+        );
+    }
+    let missing = wire::signed(frame::wanting(left) as u64);
     words::short(
         [0u8; TEXT_ROOM],
-        table::REFUSED,
+        table::TOO_SHORT,
         offset,
-        progress.refused as i64,
-        0,
+        refused,
+        missing,
         0,
         0,
         0,
@@ -298,8 +313,8 @@ fn put(out: &[u8], gathered: usize) {
 }
 
 // Writes the last line, and all that is gathered.
-fn finish(out: &mut [u8], table: &[u8], progress: Progress) {
-    let a = words::write(out, progress.gathered, table, 0, last(progress));
+fn finish(left: &[u8], out: &mut [u8], table: &[u8], progress: Progress) {
+    let a = words::write(out, progress.gathered, table, 0, last(left, progress));
     let b = text::word(out, a, b"\n");
     put(out, b);
 }
@@ -331,14 +346,14 @@ fn show(bytes: &mut [u8], out: &mut [u8], table: &[u8]) {
             output_failed();
             return;
         }
+        let from = progress.from;
         if (now_held == held) | (1 < progress.refused) {
-            finish(out, table, progress);
+            finish(&bytes[from..now_held], out, table, progress);
             return;
         }
-        let from = progress.from;
         held = window::slide(bytes, from, now_held);
     }
-    finish(out, table, progress);
+    finish(&bytes[0..held], out, table, progress);
 }
 
 fn main() {

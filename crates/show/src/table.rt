@@ -73,6 +73,8 @@ pub const END: u64 = 32;
 
 pub const REFUSED: u64 = 33;
 
+pub const TOO_SHORT: u64 = 34;
+
 // Lays the table.
 pub fn lay(table: &mut [u8]) {
     wire::copy(
@@ -112,6 +114,7 @@ N resend: refused N
 N channel heartbeat: refused N
 N end N
 N refused N
+N refused N N
 "#,
     );
 }

@@ -69,7 +69,7 @@ module _ (h limit : ℕ) (g : 4 ≤ h) where
 
   nonempty : (s : List ℕ) {n : ℕ} → read h limit s ≡ refused n [] → Stopping n → 0 < length s
   nonempty [] {n} e z =
-      let y : refused tooShort [] ≡ refused n [] = sym (missing h limit [] (none-lacks h limit g)) ∙ e in
+      let y : refused tooShort (wanting h limit [] ∷ []) ≡ refused n [] = sym (missing h limit [] (none-lacks h limit g)) ∙ e in
       let q : n ≡ tooShort = cc in
       absurd (not-short z q)
   nonempty (x ∷ s) e z = omega arith
@@ -119,16 +119,16 @@ module _ (h limit : ℕ) (g : 4 ≤ h) where
         record { frames = rw (hd, w, rest, ← i .frames); last = rw (w, rest) (i .last) }
 
   -- told that it has ended
-  end-at-once : (buffer : List ℕ) (held : ℕ) → Holding h limit buffer held → AtOnce h limit (take held buffer ++ []) [] (answerAgain (state over held))
+  end-at-once : (buffer : List ℕ) (held : ℕ) → Holding h limit buffer held → AtOnce h limit (take held buffer ++ []) [] (answerAgain (wanting h limit (take held buffer)) (state over held))
   end-at-once buffer held k = by held refl where
-    by : (n : ℕ) → held ≡ n → AtOnce h limit (take held buffer ++ []) [] (answerAgain (state over held))
+    by : (n : ℕ) → held ≡ n → AtOnce h limit (take held buffer ++ []) [] (answerAgain (wanting h limit (take held buffer)) (state over held))
     by zero q =
         let z : take held buffer ++ [] ≡ [] = append-nil (take held buffer) ∙ ap (λ (n : ℕ). take n buffer) q in
-        record { frames = rw (z, walk-none h limit); last = again-end held q ∙ rw (z, walk-none h limit) }
+        record { frames = rw (z, walk-none h limit); last = again-end _ held q ∙ rw (z, walk-none h limit) }
     by (suc n) q =
         let i : 0 < length (take held buffer) = omega (arith, length-held h limit g buffer held [] k) in
-        let r = walk-refusal h limit (take held buffer) tooShort [] i (missing h limit (take held buffer) (k .lacks)) in
-        record { frames = rw (append-nil (take held buffer), r); last = again-left held (λ y. omega arith) ∙ rw (append-nil (take held buffer), r) }
+        let r = walk-refusal h limit (take held buffer) tooShort _ i (missing h limit (take held buffer) (k .lacks)) in
+        record { frames = rw (append-nil (take held buffer), r); last = again-left _ held (λ y. omega arith) ∙ rw (append-nil (take held buffer), r) }
 
   -- ---- a host's calls
 

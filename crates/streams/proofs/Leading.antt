@@ -4,7 +4,7 @@
 use Prim.Native.Nat.{ℕ, zero, suc, _+_, _-_, _^_, _≤_, _<_}
 use mathlib.Core.Path.{_≡_, refl, ap, sym, _∙_}
 use mathlib.Core.Bool.{Bool, true, false, true≢false}
-use mathlib.Core.List.{List, [], _++_, append-assoc, append-nil}
+use mathlib.Core.List.{List, [], _∷_, _++_, append-assoc, append-nil}
 use native.Mathlib.Nat.{add-zero}
 use native.Mathlib.Omega.{arith}
 use lib.Dec.{lit<}
@@ -22,7 +22,7 @@ use Rattle.frame.specs.declared.Frame.{Frame}
 use Rattle.frame.proofs.Framing.{too-long, wrong-sum, read-as}
 use Rattle.frame.proofs.Far.{above, at-end, wants, reach-within}
 use Rattle.streams.specs.declared.Stream.{Stream}
-use Rattle.streams.specs.Stream.{going, over, state, newStream, Said, more, Told, unfinished, led, readOn, keptOn, stay, answerAgain, pushed, bufferLeft, ended}
+use Rattle.streams.specs.Stream.{going, over, state, newStream, Said, more, Told, unfinished, led, readOn, keptOn, stay, answerAgain, lackedBy, pushed, bufferLeft, ended}
 use Rattle.streams.specs.Steps.{Holding}
 use Rattle.streams.specs.Cutting.{PushCall, EndCall}
 use Rattle.streams.specs.Leads.{Leads, fresh, push, close, Takes, Ten, TenPushed, TenEnded, SaysAgain, Repeats}
@@ -93,19 +93,21 @@ not-led h limit st buffer n = by (led h limit st buffer) refl where
   by false e = e
 
 -- what is told again is never 10
-told-said : (held : ℕ) → answerAgain (state over held) ≡ refused malformed [] → ⊥
-told-said zero e = not-both (again-end zero refl) e
-told-said (suc n) e =
-    let q : refused tooShort [] ≡ refused malformed [] = sym (again-left (suc n) (λ z. omega arith)) ∙ e in
+told-said : (w held : ℕ) → answerAgain w (state over held) ≡ refused malformed [] → ⊥
+told-said w zero e = not-both (again-end w zero refl) e
+told-said w (suc n) e =
+    let q : refused tooShort (w ∷ []) ≡ refused malformed [] = sym (again-left w (suc n) (λ z. omega arith)) ∙ e in
     let z : tooShort ≡ malformed = cc in
     omega arith
 
-over-said : {h limit mark held : ℕ} {buffer : List ℕ} → Led h limit buffer mark held → (mark ≡ going → ⊥) → answerAgain (state mark held) ≡ refused malformed [] → ⊥
+over-said :
+    {h limit mark held : ℕ} {buffer : List ℕ} (w : ℕ) → Led h limit buffer mark held → (mark ≡ going → ⊥) →
+    answerAgain w (state mark held) ≡ refused malformed [] → ⊥
 unfolding answerAgain
-over-said (goes k) m e = m refl
-over-said (told {held} k) m e = told-said held e
-over-said (stop2 b) m e = let z : tooLong ≡ malformed = cc in omega arith
-over-said (stop3 b) m e = let z : wrongSum ≡ malformed = cc in omega arith
+over-said w (goes k) m e = m refl
+over-said w (told {held} k) m e = told-said w held e
+over-said w (stop2 b) m e = let z : tooLong ≡ malformed = cc in omega arith
+over-said w (stop3 b) m e = let z : wrongSum ≡ malformed = cc in omega arith
 
 module _ (h limit : ℕ) (g : 4 ≤ h) where
   -- one call of a stream that goes on
@@ -158,7 +160,7 @@ module _ (h limit : ℕ) (g : 4 ≤ h) where
     said-over l z m n =
         let y : st ≡ state _ _ = λ i. record { held = n i; mark = m i } in
         let q : st .mark ≡ going → ⊥ = λ o. z (sym m ∙ o) in
-        over-said l z (sym (ap (λ (t : Told). t .said) (push-over h limit buffer st c e q .0) ∙ ap answerAgain y) ∙ d)
+        over-said (lackedBy h limit st buffer) l z (sym (ap (λ (t : Told). t .said) (push-over h limit buffer st c e q .0) ∙ ap (answerAgain (lackedBy h limit st buffer)) y) ∙ d)
 
     by : {mark held : ℕ} → Led h limit buffer mark held → st .mark ≡ mark → st .held ≡ held → ⊥
     by (goes {held} k) m n =
@@ -175,10 +177,10 @@ module _ (h limit : ℕ) (g : 4 ≤ h) where
     said-over l z m n =
         let y : st ≡ state _ _ = λ i. record { held = n i; mark = m i } in
         let q : st .mark ≡ going → ⊥ = λ o. z (sym m ∙ o) in
-        over-said l z (sym (ap (λ (t : Told). t .said) (end-over h limit buffer st e q) ∙ ap answerAgain y) ∙ d)
+        over-said (lackedBy h limit st buffer) l z (sym (ap (λ (t : Told). t .said) (end-over h limit buffer st e q) ∙ ap (answerAgain (lackedBy h limit st buffer)) y) ∙ d)
 
     by : {mark held : ℕ} → Led h limit buffer mark held → st .mark ≡ mark → st .held ≡ held → ⊥
-    by (goes k) m n = told-said (st .held) (sym (ap (λ (t : Told). t .said) (end-on h limit buffer st e m)) ∙ d)
+    by (goes k) m n = told-said (lackedBy h limit st buffer) (st .held) (sym (ap (λ (t : Told). t .said) (end-on h limit buffer st e m)) ∙ d)
     by (told k) m n = said-over (told k) (λ z. omega arith) m n
     by (stop2 b) m n = said-over (stop2 b) (λ z. omega arith) m n
     by (stop3 b) m n = said-over (stop3 b) (λ z. omega arith) m n
@@ -287,7 +289,7 @@ module _ (h limit : ℕ) (g : 4 ≤ h) where
 
     push-nothing :
         (st : Stream) (buffer : List ℕ) → led h limit st buffer ≡ true → st .mark ≡ going →
-        (pushed h limit st buffer [] ≡ stay (accepted (more [])) st) × (bufferLeft h limit st buffer [] ≡ buffer)
+        (pushed h limit st buffer [] ≡ stay (accepted (more (lackedBy h limit st buffer ∷ []))) st) × (bufferLeft h limit st buffer [] ≡ buffer)
     push-nothing st buffer e m =
         let k = held-of h limit buffer st e m in
         let u = unfinished st buffer in
@@ -295,7 +297,8 @@ module _ (h limit : ℕ) (g : 4 ≤ h) where
         let n : length (u ++ []) ≡ st .held = rw (append-nil u) (length-take-le (st .held) buffer (k .within)) in
         let p = push-on h limit buffer st [] e m in
         let q : state going (length (u ++ [])) ≡ st = λ i. record { held = n i; mark = sym m i } in
-        (p .0 ∙ on-lacking h limit u [] z ∙ ap (λ (x : Stream). stay (accepted (more [])) x) q, p .1 ∙ kept-all h limit u [] buffer z ∙ splice-none buffer (length u))
+        let w : wanting h limit (u ++ []) ≡ wanting h limit u = rw (append-nil u) in
+        (p .0 ∙ on-lacking h limit u [] z ∙ rw w (ap (λ (x : Stream). stay (accepted (more (wanting h limit u ∷ []))) x) q), p .1 ∙ kept-all h limit u [] buffer z ∙ splice-none buffer (length u))
 
     pub takes : Takes h limit Push End
     takes =
@@ -316,7 +319,7 @@ module _ (h limit : ℕ) (g : 4 ≤ h) where
     stuck-malformed : (st : Stream) (buffer : List ℕ) → led h limit st buffer ≡ false → Stuck st buffer (refused malformed [])
     stuck-malformed st buffer e = record { pushes = λ c. push-malformed h limit buffer st c e; ends = end-malformed h limit buffer st e }
 
-    stuck-over : (st : Stream) (buffer : List ℕ) → led h limit st buffer ≡ true → (st .mark ≡ going → ⊥) → Stuck st buffer (answerAgain st)
+    stuck-over : (st : Stream) (buffer : List ℕ) → led h limit st buffer ≡ true → (st .mark ≡ going → ⊥) → Stuck st buffer (answerAgain (lackedBy h limit st buffer) st)
     stuck-over st buffer e m = record { pushes = λ c. push-over h limit buffer st c e m; ends = end-over h limit buffer st e m }
 
     stuck-stopped : (buffer : List ℕ) {n : ℕ} → Stopping n → longest h limit ≤ length buffer → Stuck (state n 0) buffer (refused n [])

@@ -30,7 +30,7 @@ module _ (h limit : ℕ) where
 
   pub on-lacking :
       (u c : List ℕ) → 0 < wanting h limit (u ++ c) →
-      readOn h limit u c ≡ record { said = accepted (more []); took = length c; next = state going (length (u ++ c)) }
+      readOn h limit u c ≡ record { said = accepted (more (wanting h limit (u ++ c) ∷ [])); took = length c; next = state going (length (u ++ c)) }
   unfolding readOn
   on-lacking u c z =
       let k : taken h limit u c ≡ length c = omega (arith, short-reach h limit (u ++ c) z, length-append u c) in
@@ -115,30 +115,35 @@ same-next (refused k vs) n m z = let y : k ≡ tooShort → ⊥ = λ e. z (rw e 
 module _ (h limit : ℕ) (buffer : List ℕ) (held : ℕ) (c : List ℕ) where
   -- bytes are still missing: all of the cut goes behind those held
   pub keep-all :
-      Lacking h limit buffer held c →
+      {w : ℕ} → Lacking h limit buffer held c w →
       (held + length c ≤ length buffer)
       × (length c ≤ longest h limit)
-      × (moreTold (length c) (held + length c) ≡ readOn h limit (take held buffer) c)
+      × (moreTold (length c) (held + length c) w ≡ readOn h limit (take held buffer) c)
       × (splice buffer held c ≡ keptOn h limit (take held buffer) c buffer)
   keep-all k =
       let u = take held buffer in
       let l : length u ≡ held = length-take-le held buffer (k .within) in
       let n : length (u ++ c) ≡ held + length c = omega (arith, length-append u c, l) in
-      let f = fits h limit (u ++ c) (k .lacks) in (
+      let z : 0 < wanting h limit (u ++ c) = omega (arith, k .wants, k .lacks) in
+      let f = fits h limit (u ++ c) z in (
         omega (arith, f, n, k .room),
         omega (arith, f, n),
-        sym (on-lacking h limit u c (k .lacks) ∙ rw n),
-        sym (kept-all h limit u c buffer (k .lacks) ∙ rw l),
+        sym (on-lacking h limit u c z ∙ rw (n, ← k .wants)),
+        sym (kept-all h limit u c buffer z ∙ rw l),
       )
 
   -- the cut has fewer bytes than are missing
-  pub few-lacking : 4 ≤ h → Holding h limit buffer held → length c < wanting h limit (take held buffer) → Lacking h limit buffer held c
-  few-lacking g k i =
-      record { room = k .room; within = k .within; lacks = rw (still h limit (take held buffer) c g i .0) (omega arith) }
+  pub few-lacking :
+      {w : ℕ} → 4 ≤ h → Holding h limit buffer held → w ≡ wanting h limit (take held buffer) → length c < w →
+      Lacking h limit buffer held c (w - length c)
+  few-lacking {w} g k e i =
+      let n = still h limit (take held buffer) c g (omega arith) .0 in
+      record { room = k .room; within = k .within; wants = omega arith; lacks = omega arith }
 
 -- no bytes are held, and the cut lacks some
-pub none-lacking : (h limit : ℕ) (buffer c : List ℕ) → longest h limit ≤ length buffer → 0 < wanting h limit c → Lacking h limit buffer 0 c
-none-lacking h limit buffer c b z = record { room = b; within = omega arith; lacks = z }
+pub none-lacking :
+    (h limit : ℕ) (buffer c : List ℕ) {w : ℕ} → longest h limit ≤ length buffer → w ≡ wanting h limit c → 0 < w → Lacking h limit buffer 0 c w
+none-lacking h limit buffer c b e z = record { room = b; within = omega arith; wants = e; lacks = z }
 
 -- so many bytes of the cut are judged with those held, and no more are: where they go, and what the call tells then
 pub record Ends (h limit : ℕ) (buffer : List ℕ) (held : ℕ) (c : List ℕ) (n : ℕ) : Type 0 where
@@ -280,14 +285,14 @@ module _ (h limit : ℕ) (buffer : List ℕ) (held lacks : ℕ) (c : List ℕ) (
       rw o (splice-more buffer held some t (omega (arith, l, length-some)) ∙ rw (take-add lacks n c))
 
   -- less comes than is missing then
-  less-lacking : length c - lacks < wanting h limit front → Lacking h limit buffer held c
+  less-lacking : length c - lacks < wanting h limit front → Lacking h limit buffer held c (wanting h limit front - (length c - lacks))
   less-lacking j =
       let w = rw all at (still h limit front (drop lacks c) g (omega (arith, left)) .0) in
-      record { room = k .room; within = k .within; lacks = rw w (omega (arith, left)) }
+      record { room = k .room; within = k .within; wants = omega (arith, left, w); lacks = omega arith }
 
   pub go-less :
       length c - lacks < wanting h limit front →
-      (moreTold (length c) (held + length c) ≡ readOn h limit u c)
+      (moreTold (length c) (held + length c) (wanting h limit front - (length c - lacks)) ≡ readOn h limit u c)
       × (splice first (held + lacks) (take (length c - lacks) (drop lacks c)) ≡ keptOn h limit u c buffer)
   go-less j =
       let s = keep-all h limit buffer held c (less-lacking j) in

@@ -1,20 +1,20 @@
 -- What a cut reads as behind the bytes of an unfinished frame, and what follows for the next state; over the header's width and the body limit.
 -- Assumes nothing.
-use Prim.Native.Nat.{ℕ, zero, suc, _+_, _-_, _≤_, _<_}
-use mathlib.Core.Path.{_≡_, refl, _∙_}
-use mathlib.Core.List.{List, [], _++_}
+use Prim.Native.Nat.{ℕ, _≤_, _<_}
+use mathlib.Core.Path.{_≡_, refl}
+use mathlib.Core.List.{List, [], _∷_, _++_}
 use native.Mathlib.Omega.{arith}
 use borrow.Author.Tests.{eq-eqb, ne-eqb}
 use lib.ListN.{length, take}
 use lib.Seq.{length-take-le}
-use Rattle.wire.specs.Answer.{Answer, accepted, refused, RefusedBy, with-values}
+use Rattle.wire.specs.Answer.{Answer, accepted, refused}
 use Rattle.wire.specs.Refusal.{tooShort, tooLong, wrongSum}
 use Rattle.frame.specs.Framing.{read, longest}
 use Rattle.frame.specs.Wanting.{wanting}
 use Rattle.frame.specs.declared.Frame.{Frame}
 use Rattle.frame.proofs.Framing.{Reading, no-header, too-long, cut, wrong-sum, whole, view}
-use Rattle.frame.proofs.Far.{judged}
-use Rattle.streams.specs.Stream.{going, over, state, keptOn, stay, answerAgain, pushed, bufferLeft, ended, end}
+use Rattle.frame.proofs.Lacking.{told}
+use Rattle.streams.specs.Stream.{going, over, state, keptOn, stay, answerAgain, lackedBy, pushed, bufferLeft, ended, end}
 use Rattle.streams.specs.Steps.{Holding}
 use Rattle.streams.proofs.States.{fits, none-lacks, Led, stop2, stop3, led-as, push-over, end-over}
 use Rattle.streams.proofs.Pushes.{kept-front, kept-length}
@@ -37,44 +37,38 @@ pub stop-led : {h limit n : ℕ} {buffer : List ℕ} → Stopping n → longest 
 stop-led by-2 b = stop2 b
 stop-led by-3 b = stop3 b
 
-pub stop-again : {n : ℕ} → Stopping n → answerAgain (state n 0) ≡ refused n []
+pub stop-again : (w : ℕ) {n : ℕ} → Stopping n → answerAgain w (state n 0) ≡ refused n []
 unfolding answerAgain
-stop-again by-2 = refl
-stop-again by-3 = refl
+stop-again w by-2 = refl
+stop-again w by-3 = refl
 
 -- ---- what a stream that was told to have ended answers
 
-pub again-end : (held : ℕ) → held ≡ 0 → answerAgain (state over held) ≡ accepted end
+pub again-end : (w held : ℕ) → held ≡ 0 → answerAgain w (state over held) ≡ accepted end
 unfolding answerAgain
-again-end held z = rw (eq-eqb held 0 z)
+again-end w held z = rw (eq-eqb held 0 z)
 
-pub again-left : (held : ℕ) → (held ≡ 0 → ⊥) → answerAgain (state over held) ≡ refused tooShort []
+pub again-left : (w held : ℕ) → (held ≡ 0 → ⊥) → answerAgain w (state over held) ≡ refused tooShort (w ∷ [])
 unfolding answerAgain
-again-left held z = rw (ne-eqb held 0 z)
+again-left w held z = rw (ne-eqb held 0 z)
 
 -- ---- what is read
 
 -- a frame; or bytes are missing; or the stream stops
 pub data Read (h limit : ℕ) (s : List ℕ) : Answer Frame → Type 0 where
   a-frame : (f : Frame) → Read h limit s (accepted f)
-  lacking : 0 < wanting h limit s → Read h limit s (refused tooShort [])
+  lacking : 0 < wanting h limit s → Read h limit s (refused tooShort (wanting h limit s ∷ []))
   stopped : {n : ℕ} → Stopping n → Read h limit s (refused n [])
-
-lacks : (h limit : ℕ) (s : List ℕ) → RefusedBy tooShort (read h limit s) → 0 < wanting h limit s
-lacks h limit s r = by (wanting h limit s) refl where
-  by : (w : ℕ) → wanting h limit s ≡ w → 0 < wanting h limit s
-  by zero e = absurd (judged h limit s e r)
-  by (suc w) e = omega arith
 
 pub reads : (h limit : ℕ) (s : List ℕ) → Read h limit s (read h limit s)
 reads h limit s = by (read h limit s) refl (view h limit s) where
-  short : {x : Answer Frame} → read h limit s ≡ x → x ≡ refused tooShort [] → 0 < wanting h limit s
-  short e f = lacks h limit s (rw (e ∙ f) (with-values []))
+  short : {vs : List ℕ} → read h limit s ≡ refused tooShort vs → Read h limit s (refused tooShort vs)
+  short {vs} e = let t = told h limit s vs e in rw (t .0) (lacking (t .1))
 
   by : (a : Answer Frame) → read h limit s ≡ a → Reading h limit s a → Read h limit s a
-  by _ e (no-header i) = lacking (short e refl)
+  by _ e (no-header i) = short e
   by _ e (too-long i p j) = stopped by-2
-  by _ e (cut i p j k) = lacking (short e refl)
+  by _ e (cut i p j k) = short e
   by _ e (wrong-sum i p j k w) = stopped by-3
   by _ e (whole {f} i) = a-frame f
 
@@ -115,10 +109,10 @@ pub stopped-push :
     (pushed h limit (state n 0) buffer c ≡ stay (refused n []) (state n 0)) × (bufferLeft h limit (state n 0) buffer c ≡ buffer)
 stopped-push h limit buffer c {n} z b =
     let p = push-over h limit buffer (state n 0) c (led-as h limit buffer (stop-led z b)) (not-going z) in
-    (rw (stop-again z) at (p .0), p .1)
+    (rw (stop-again (lackedBy h limit (state n 0) buffer) z) at (p .0), p .1)
 
 pub stopped-end :
     (h limit : ℕ) (buffer : List ℕ) {n : ℕ} → Stopping n → longest h limit ≤ length buffer →
     ended h limit (state n 0) buffer ≡ stay (refused n []) (state n 0)
 stopped-end h limit buffer {n} z b =
-    rw (stop-again z) at (end-over h limit buffer (state n 0) (led-as h limit buffer (stop-led z b)) (not-going z))
+    rw (stop-again (lackedBy h limit (state n 0) buffer) z) at (end-over h limit buffer (state n 0) (led-as h limit buffer (stop-led z b)) (not-going z))

@@ -19,7 +19,7 @@ use Rattle.frame.specs.Wanting.{wanting}
 use Rattle.frame.proofs.Framing.{under}
 use Rattle.frame.proofs.Far.{Far, in-header, above, in-body, at-end, far, judged}
 use Rattle.streams.specs.declared.Stream.{Stream}
-use Rattle.streams.specs.Stream.{going, over, stopping, state, unfinished, led, readOn, keptOn, stay, answerAgain, pushed, bufferLeft, ended}
+use Rattle.streams.specs.Stream.{going, over, stopping, state, unfinished, led, readOn, keptOn, stay, answerAgain, lackedBy, pushed, bufferLeft, ended}
 use Rattle.streams.specs.Steps.{IsOver, Holding}
 
 -- bytes that lack some are fewer than the longest frame has
@@ -153,6 +153,9 @@ module _ (h limit : ℕ) (buffer : List ℕ) where
   room-of (stop2 b) = b
   room-of (stop3 b) = b
 
+  pub led-room : (st : Stream) → led h limit st buffer ≡ true → longest h limit ≤ length buffer
+  led-room st e = room-of (led-known st e)
+
   -- ---- the calls
 
   -- a stream that goes on reads held bytes and cut as one
@@ -166,7 +169,7 @@ module _ (h limit : ℕ) (buffer : List ℕ) where
   -- one that is over takes nothing and repeats its answer
   pub push-over :
       (st : Stream) (c : List ℕ) → led h limit st buffer ≡ true → (st .mark ≡ going → ⊥) →
-      (pushed h limit st buffer c ≡ stay (answerAgain st) st) × (bufferLeft h limit st buffer c ≡ buffer)
+      (pushed h limit st buffer c ≡ stay (answerAgain (lackedBy h limit st buffer) st) st) × (bufferLeft h limit st buffer c ≡ buffer)
   unfolding pushed bufferLeft
   push-over st c e m = (rw (e, ne-eqb (st .mark) going m), rw (e, ne-eqb (st .mark) going m))
 
@@ -178,11 +181,12 @@ module _ (h limit : ℕ) (buffer : List ℕ) where
 
   pub end-on :
       (st : Stream) → led h limit st buffer ≡ true → st .mark ≡ going →
-      ended h limit st buffer ≡ stay (answerAgain (state over (st .held))) (state over (st .held))
+      ended h limit st buffer ≡ stay (answerAgain (lackedBy h limit st buffer) (state over (st .held))) (state over (st .held))
   unfolding ended
   end-on st e m = rw (e, eq-eqb (st .mark) going m)
 
-  pub end-over : (st : Stream) → led h limit st buffer ≡ true → (st .mark ≡ going → ⊥) → ended h limit st buffer ≡ stay (answerAgain st) st
+  pub end-over :
+      (st : Stream) → led h limit st buffer ≡ true → (st .mark ≡ going → ⊥) → ended h limit st buffer ≡ stay (answerAgain (lackedBy h limit st buffer) st) st
   unfolding ended
   end-over st e m = rw (e, ne-eqb (st .mark) going m)
 

@@ -7,14 +7,14 @@ use mathlib.Core.List.{List, [], _++_}
 use native.Mathlib.Omega.{arith}
 use Rattle.wire.specs.Answer.{Answer, accepted, refused}
 use Rattle.wire.specs.Refusal.{malformed}
-use Rattle.frame.specs.Framing.{read}
+use Rattle.frame.specs.Framing.{read, missingBy}
 use Rattle.frame.specs.declared.Frame.{Frame}
 use Rattle.frame.specs.declared.Refusal.the-variants.{TooShort, TooLong, WrongSum}
 use Rattle.streams.specs.declared.Stream.{Stream}
 use Rattle.streams.specs.declared.Says.{Says}
 use Rattle.streams.specs.declared.Says.the-variants as says
 use Rattle.streams.specs.declared.Pushed.{Pushed}
-use Rattle.streams.specs.Stream.{going, over, state, Said, frame, more, end, Where, inCut, inBuffer, Told, led, unfinished, stands, readOn, answerAgain, pushed, ended}
+use Rattle.streams.specs.Stream.{going, over, state, Said, frame, more, end, Where, inCut, inBuffer, Told, led, unfinished, stands, readOn, answerAgain, lackedBy, pushed, ended}
 use Rattle.streams.specs.Paper.{meansSays, meansPushed}
 use Rattle.streams.proofs.States.{Led, goes, told, stop2, stop3, led-known, push-on, push-over, push-malformed, end-on, end-over, end-malformed}
 use Rattle.streams.proofs.Pushes.{on-frame, on-lacking, on-stopping}
@@ -22,27 +22,27 @@ use Rattle.streams.proofs.Readings.{Stopping, by-2, by-3, not-short, st
 
 -- ---- the way back
 
-refusedAs : ℕ → Says
-refusedAs zero = says.Malformed
-refusedAs (suc zero) = says.Refused TooShort
-refusedAs (suc (suc zero)) = says.Refused TooLong
-refusedAs (suc (suc (suc zero))) = says.Refused WrongSum
-refusedAs (suc (suc (suc (suc n)))) = says.Malformed
+refusedAs : ℕ → ℕ → Says
+refusedAs w zero = says.Malformed
+refusedAs w (suc zero) = says.Refused (TooShort w)
+refusedAs w (suc (suc zero)) = says.Refused TooLong
+refusedAs w (suc (suc (suc zero))) = says.Refused WrongSum
+refusedAs w (suc (suc (suc (suc n)))) = says.Malformed
 
 pub saysOf : Answer Said → Says
 saysOf (accepted (frame inCut f)) = says.InCut f
 saysOf (accepted (frame inBuffer f)) = says.InBuffer f
-saysOf (accepted (more vs)) = says.More
+saysOf (accepted (more vs)) = says.More (missingBy vs)
 saysOf (accepted end) = says.End
-saysOf (refused n vs) = refusedAs n
+saysOf (refused n vs) = refusedAs (missingBy vs) n
 
 says-back : (a : Says) → saysOf (meansSays a) ≡ a
 unfolding saysOf refusedAs
 says-back (says.InCut f) = refl
 says-back (says.InBuffer f) = refl
-says-back says.More = refl
+says-back (says.More n) = refl
 says-back says.End = refl
-says-back (says.Refused TooShort) = refl
+says-back (says.Refused (TooShort n)) = refl
 says-back (says.Refused TooLong) = refl
 says-back (says.Refused WrongSum) = refl
 says-back says.Malformed = refl
@@ -74,10 +74,10 @@ unfolding saysOf refusedAs
 coded-stop by-2 = refl
 coded-stop by-3 = refl
 
-coded-told : (held : ℕ) → Coded (answerAgain (state over held))
+coded-told : (w held : ℕ) → Coded (answerAgain w (state over held))
 unfolding saysOf refusedAs
-coded-told zero = rw (again-end zero refl)
-coded-told (suc n) = rw (again-left (suc n) (λ z. omega arith))
+coded-told w zero = rw (again-end w zero refl)
+coded-told w (suc n) = rw (again-left w (suc n) (λ z. omega arith))
 
 coded-on : (h limit : ℕ) (u c : List ℕ) (r : Answer Frame) → read h limit (u ++ c) ≡ r → Read h limit (u ++ c) r → Coded (readOn h limit u c .said)
 unfolding saysOf
@@ -89,11 +89,11 @@ coded-malformed : Coded (refused malformed [])
 unfolding saysOf refusedAs
 coded-malformed = refl
 
-coded-again : {h limit mark held : ℕ} {buffer : List ℕ} → Led h limit buffer mark held → (mark ≡ going → ⊥) → Coded (answerAgain (state mark held))
-coded-again (goes k) m = absurd (m refl)
-coded-again (told {held} k) m = coded-told held
-coded-again (stop2 b) m = rw (stop-again by-2) (coded-stop by-2)
-coded-again (stop3 b) m = rw (stop-again by-3) (coded-stop by-3)
+coded-again : {h limit mark held : ℕ} {buffer : List ℕ} (w : ℕ) → Led h limit buffer mark held → (mark ≡ going → ⊥) → Coded (answerAgain w (state mark held))
+coded-again w (goes k) m = absurd (m refl)
+coded-again w (told {held} k) m = coded-told w held
+coded-again w (stop2 b) m = rw (stop-again w by-2) (coded-stop by-2)
+coded-again w (stop3 b) m = rw (stop-again w by-3) (coded-stop by-3)
 
 module _ (h limit : ℕ) (st : Stream) (buffer : List ℕ) where
   coded-push : (c : List ℕ) → Coded (pushed h limit st buffer c .said)
@@ -104,16 +104,16 @@ module _ (h limit : ℕ) (st : Stream) (buffer : List ℕ) where
         rw (push-on h limit buffer st c e m .0) (coded-on h limit (unfinished st buffer) c _ refl (reads h limit (unfinished st buffer ++ c)))
     by true e (suc n) m =
         let z : st .mark ≡ going → ⊥ = λ o. omega arith in
-        rw (push-over h limit buffer st c e z .0) (coded-again (led-known h limit buffer st e) z)
+        rw (push-over h limit buffer st c e z .0) (coded-again (lackedBy h limit st buffer) (led-known h limit buffer st e) z)
 
   coded-end : Coded (ended h limit st buffer .said)
   coded-end = by (led h limit st buffer) refl (st .mark) refl where
     by : (t : Bool) → led h limit st buffer ≡ t → (mark : ℕ) → st .mark ≡ mark → Coded (ended h limit st buffer .said)
     by false e mark m = rw (end-malformed h limit buffer st e) coded-malformed
-    by true e zero m = rw (end-on h limit buffer st e m) (coded-told (st .held))
+    by true e zero m = rw (end-on h limit buffer st e m) (coded-told (lackedBy h limit st buffer) (st .held))
     by true e (suc n) m =
         let z : st .mark ≡ going → ⊥ = λ o. omega arith in
-        rw (end-over h limit buffer st e z) (coded-again (led-known h limit buffer st e) z)
+        rw (end-over h limit buffer st e z) (coded-again (lackedBy h limit st buffer) (led-known h limit buffer st e) z)
 
   told-as : (t : Told) → Coded (t .said) → meansPushed (pushedOf t) ≡ t
   unfolding pushedOf

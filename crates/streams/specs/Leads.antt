@@ -4,13 +4,13 @@
 use Prim.Native.Nat.{ℕ, _≤_}
 use mathlib.Core.Path.{_≡_}
 use mathlib.Core.Logic.{_↔_}
-use mathlib.Core.List.{List, []}
+use mathlib.Core.List.{List, [], _∷_}
 use lib.ListN.{length}
 use Rattle.wire.specs.Answer.{accepted, refused}
 use Rattle.wire.specs.Refusal.{malformed}
 use Rattle.frame.specs.Framing.{longest}
 use Rattle.streams.specs.declared.Stream.{Stream}
-use Rattle.streams.specs.Stream.{going, newStream, more, Told, stay}
+use Rattle.streams.specs.Stream.{going, newStream, more, Told, stay, lackedBy}
 use Rattle.streams.specs.Cutting.{PushCall, EndCall}
 
 -- S8: a new stream over any buffer that takes the longest frame; what a cut, and the end, make of a state that calls lead to
@@ -43,7 +43,7 @@ pub record Takes (h limit : ℕ) (Push : PushCall) (End : EndCall) : Type 0 wher
   pub within : (st : Stream) (buffer c : List ℕ) (told : Told) (left : List ℕ) → Push st buffer c told left → told .took ≤ length c
   pub nothing :
       (st : Stream) (buffer : List ℕ) (told : Told) (left : List ℕ) → Leads h limit Push End st buffer → st .mark ≡ going → Push st buffer [] told left →
-      (told ≡ stay (accepted (more [])) st) × (left ≡ buffer)
+      (told ≡ stay (accepted (more (lackedBy h limit st buffer ∷ []))) st) × (left ≡ buffer)
 
 -- S7: every later call takes nothing, answers the same, and leaves state and buffer
 pub record SaysAgain (Push : PushCall) (End : EndCall) (told : Told) (buffer : List ℕ) : Type 0 where

@@ -1,6 +1,6 @@
 -- The code's answers in the terms of Stream.
 -- Assumes nothing.
-use mathlib.Core.List.{[]}
+use mathlib.Core.List.{[], _∷_}
 use Rattle.wire.specs.Answer.{Answer, accepted, refused}
 use Rattle.wire.specs.Refusal.{malformed}
 use Rattle.frame.specs.Framing.{frameRefusal, refusalValues}
@@ -12,7 +12,7 @@ use Rattle.streams.specs.declared.Pushed.{Pushed}
 abbrev pub meansSays : Says → Answer Said
 meansSays (says.InCut f) = accepted (frame inCut f)
 meansSays (says.InBuffer f) = accepted (frame inBuffer f)
-meansSays says.More = accepted (more [])
+meansSays (says.More n) = accepted (more (n ∷ []))
 meansSays says.End = accepted end
 meansSays (says.Refused x) = refused (frameRefusal x) (refusalValues x)
 meansSays says.Malformed = refused malformed []

@@ -3,7 +3,7 @@
 use Prim.Native.Nat.{ℕ, _-_, _≤_, _<_}
 use mathlib.Core.Path.{_≡_}
 use mathlib.Core.Logic.{_⊎_}
-use mathlib.Core.List.{List, [], _++_}
+use mathlib.Core.List.{List, [], _∷_, _++_}
 use lib.ListN.{length, take}
 use Rattle.wire.specs.Answer.{accepted, refused}
 use Rattle.wire.specs.Refusal.{tooLong, wrongSum}
@@ -22,11 +22,12 @@ pub record Holding (h limit : ℕ) (buffer : List ℕ) (held : ℕ) : Type 0 whe
   pub within : held ≤ length buffer
   pub lacks : 0 < wanting h limit (take held buffer)
 
--- S4: a cut behind held bytes of the buffer that lacks some with them
-pub record Lacking (h limit : ℕ) (buffer : List ℕ) (held : ℕ) (c : List ℕ) : Type 0 where
+-- S4: a cut behind held bytes of the buffer that lacks so many with them, and some
+pub record Lacking (h limit : ℕ) (buffer : List ℕ) (held : ℕ) (c : List ℕ) (missing : ℕ) : Type 0 where
   pub room : longest h limit ≤ length buffer
   pub within : held ≤ length buffer
-  pub lacks : 0 < wanting h limit (take held buffer ++ c)
+  pub wants : missing ≡ wanting h limit (take held buffer ++ c)
+  pub lacks : 0 < missing
 
 -- S4: a cut that brings what held bytes of an unfinished frame lack
 pub record Brought (h limit : ℕ) (buffer : List ℕ) (held lacks : ℕ) (c : List ℕ) : Type 0 where
@@ -35,9 +36,9 @@ pub record Brought (h limit : ℕ) (buffer : List ℕ) (held lacks : ℕ) (c : L
   pub wants : lacks ≡ wanting h limit (take held buffer)
   pub comes : lacks ≤ length c
 
--- S4: the whole cut is taken, and held bytes are there then
-abbrev pub moreTold : ℕ → ℕ → Told
-moreTold took held = record { said = accepted (more []); took = took; next = state going held }
+-- S4: the whole cut is taken, and held bytes are there then, which lack so many
+abbrev pub moreTold : ℕ → ℕ → ℕ → Told
+moreTold took held missing = record { said = accepted (more (missing ∷ [])); took = took; next = state going held }
 
 -- S4, S7: the stream stops at a refusal
 abbrev pub stopTold : Refusal → ℕ → Told

@@ -3,7 +3,7 @@
 -- Assumes nothing.
 use Prim.Native.Nat.{ℕ, _-_}
 use mathlib.Core.Bool.{Bool, cond, _&&_, _||_}
-use mathlib.Core.List.{List, [], _++_}
+use mathlib.Core.List.{List, [], _∷_, _++_}
 use lib.Dec.{ltb, leb, eqb}
 use lib.ListN.{length, take}
 use Rattle.wire.specs.Answer.{Answer, accepted, refused}
@@ -54,7 +54,7 @@ pub data Where : Type 0 where
   inCut : Where
   inBuffer : Where
 
--- S3, S4, S6: a frame; no frame yet, with the values that go with it; the end
+-- S3, S4, S6: a frame; no frame yet, with the values of 1; the end
 pub data Said : Type 0 where
   frame : Where → Frame → Said
   more : List ℕ → Said
@@ -106,15 +106,20 @@ keptOn h limit u c buffer =
 
 -- ---- the calls
 
--- S6, S7: what a stream that is over answers, each time
-unfoldable pub answerAgain : Stream → Answer Said
-answerAgain st = cond (eqb (st .mark) over) (cond (eqb (st .held) 0) (accepted end) (refused tooShort [])) (refused (st .mark) [])
+-- S6, S7: what a stream that is over answers, each time, where its held bytes lack so many
+unfoldable pub answerAgain : ℕ → Stream → Answer Said
+answerAgain missing st =
+    cond (eqb (st .mark) over) (cond (eqb (st .held) 0) (accepted end) (refused tooShort (missing ∷ []))) (refused (st .mark) [])
+
+-- S6: what the bytes of the unfinished frame lack
+abbrev pub lackedBy : ℕ → ℕ → Stream → List ℕ → ℕ
+lackedBy h limit st buffer = wanting h limit (unfinished st buffer)
 
 -- S2, S7, S8: a cut is handed in
 unfoldable pub pushed : ℕ → ℕ → Stream → List ℕ → List ℕ → Told
 pushed h limit st buffer c =
     cond (led h limit st buffer)
-    (cond (eqb (st .mark) going) (readOn h limit (unfinished st buffer) c) (stay (answerAgain st) st))
+    (cond (eqb (st .mark) going) (readOn h limit (unfinished st buffer) c) (stay (answerAgain (lackedBy h limit st buffer) st) st))
     (stay (refused malformed []) st)
 
 -- S5, S7, S8: what the lent buffer holds then
@@ -129,4 +134,4 @@ closing st = cond (eqb (st .mark) going) (state over (st .held)) st
 -- S6, S7, S8: the stream is told to have ended
 unfoldable pub ended : ℕ → ℕ → Stream → List ℕ → Told
 ended h limit st buffer =
-    cond (led h limit st buffer) (stay (answerAgain (closing st)) (closing st)) (stay (refused malformed []) st)
+    cond (led h limit st buffer) (stay (answerAgain (lackedBy h limit st buffer) (closing st)) (closing st)) (stay (refused malformed []) st)

@@ -19,11 +19,11 @@ use frame::Framed;
 use frame::Refusal;
 
 // The whole cut is taken, and no frame is whole yet.
-fn more(took: usize, held: usize) -> Pushed
-    ensures { λ r. ⌜ meansPushed r ≡ moreTold took held ⌝ }
+fn more(took: usize, held: usize, missing: usize) -> Pushed
+    ensures { λ r. ⌜ meansPushed r ≡ moreTold took held missing ⌝ }
 {
     Pushed {
-        says: Says::More,
+        says: Says::More { missing },
         took,
         next: Stream {
             held,
@@ -46,14 +46,14 @@ fn stopped(why: Refusal, took: usize) -> Pushed
     }
 }
 
-// A cut behind held bytes that lacks some with them: all of it is kept.
-fn keep_all(buffer: &mut [u8], held: usize, cut: &[u8]) -> Pushed
-    requires { ⌜ Lacking headerWidth bodyLimit (now buffer) held (now cut) ⌝ }
+// A cut behind held bytes that lacks so many with them: all of it is kept.
+fn keep_all(buffer: &mut [u8], held: usize, cut: &[u8], missing: usize) -> Pushed
+    requires { ⌜ Lacking headerWidth bodyLimit (now buffer) held (now cut) missing ⌝ }
     ensures { λ r. ⌜ meansPushed r ≡ readOn headerWidth bodyLimit (take held (now (buffer .entry))) (now (cut .entry)) ⌝ }
     ensures { λ r. ⌜ now (buffer .exit) ≡ keptOn headerWidth bodyLimit (take held (now (buffer .entry))) (now (cut .entry)) (now (buffer .entry)) ⌝ }
 {
     keep(buffer, held, cut);
-    more(cut.len(), held + cut.len())
+    more(cut.len(), held + cut.len(), missing)
 }
 
 // A cut where no bytes are held: what lies whole in it is read where it is.
@@ -71,13 +71,11 @@ pub(crate) fn begin(buffer: &mut [u8], cut: &[u8]) -> Pushed
                 mark: Stream::GOING,
             },
         },
-        Framed::Refused(why) => {
-            if 0 < frame::wanting(cut) {
-                return keep_all(buffer, 0, cut);
-            }
-            let took = frame::reach(cut);
-            stopped(why, took)
-        }
+        Framed::Refused(why) => match why {
+            Refusal::TooShort { missing } => keep_all(buffer, 0, cut, missing),
+            Refusal::TooLong => stopped(why, frame::reach(cut)),
+            Refusal::WrongSum => stopped(why, frame::reach(cut)),
+        },
     }
 }
 
@@ -122,7 +120,7 @@ fn lead(buffer: &mut [u8], held: usize, cut: &[u8]) -> Pushed
     let rest = frame::wanting(&buffer[0..front]);
     if n - came < rest {
         keep(buffer, front, &cut[came..n]);
-        return more(n, held + n);
+        return more(n, held + n, rest - (n - came));
     }
     keep(buffer, front, &cut[came..came + rest]);
     judge(&buffer[0..front + rest], held)
@@ -136,7 +134,7 @@ pub(crate) fn behind(buffer: &mut [u8], held: usize, cut: &[u8]) -> Pushed
 {
     let lacks = lacking(buffer, held);
     if cut.len() < lacks {
-        return keep_all(buffer, held, cut);
+        return keep_all(buffer, held, cut, lacks - cut.len());
     }
     if lacks == 0 {
         return stay(Says::Malformed, held, Stream::GOING);

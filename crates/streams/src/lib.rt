@@ -6,6 +6,7 @@ ghost use Rattle.streams.specs.Paper.{meansPushed};
 use crate::cut::begin;
 use crate::cut::behind;
 use crate::state::again;
+use crate::state::lacking;
 use crate::state::led;
 use crate::state::stay;
 use frame::Frame;
@@ -29,8 +30,8 @@ pub enum Says {
     InCut(Frame),
     // A frame, with which the lent buffer begins.
     InBuffer(Frame),
-    // No frame yet.
-    More,
+    // No frame yet, and how many bytes are missing.
+    More { missing: usize },
     End,
     Refused(Refusal),
     // A state that no calls lead to.
@@ -85,9 +86,10 @@ impl Stream {
         if !led(buffer, held, mark) {
             return stay(Says::Malformed, held, mark);
         }
+        let missing = lacking(buffer, held);
         if mark != Stream::GOING {
-            return stay(again(held, mark), held, mark);
+            return stay(again(missing, held, mark), held, mark);
         }
-        stay(again(held, Stream::ENDED), held, Stream::ENDED)
+        stay(again(missing, held, Stream::ENDED), held, Stream::ENDED)
     }
 }

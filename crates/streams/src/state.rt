@@ -41,16 +41,16 @@ pub(crate) fn led(buffer: &[u8], held: usize, mark: u32) -> bool
     ((mark == answers::TOO_LONG) | (mark == answers::WRONG_SUM)) & (held == 0)
 }
 
-// What a stream that is over answers, at every call.
-pub(crate) fn again(held: usize, mark: u32) -> Says
+// What a stream that is over answers, at every call, where its held bytes lack so many.
+pub(crate) fn again(missing: usize, held: usize, mark: u32) -> Says
     requires { ⌜ IsOver mark ⌝ }
-    ensures { λ r. ⌜ meansSays r ≡ answerAgain (state mark held) ⌝ }
+    ensures { λ r. ⌜ meansSays r ≡ answerAgain missing (state mark held) ⌝ }
 {
     if mark == Stream::ENDED {
         if held == 0 {
             return Says::End;
         }
-        return Says::Refused(Refusal::TooShort);
+        return Says::Refused(Refusal::TooShort { missing });
     }
     if mark == answers::TOO_LONG {
         return Says::Refused(Refusal::TooLong);

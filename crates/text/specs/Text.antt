@@ -9,6 +9,7 @@ use mathlib.Core.List.{List, [], _∷_, _++_}
 use lib.Dec.{leb, eqb}
 use lib.ListN.{length}
 use Rattle.wire.specs.Bytes.{putAt}
+use Rattle.wire.specs.Refusal.{tooShort}
 
 -- the code of a digit
 abbrev pub glyph : ℕ → ℕ
@@ -46,9 +47,12 @@ codes (chars._∷_ c cs) = code c ∷ codes cs
 abbrev pub frameLine : ℕ → ℕ → ℕ → List (List ℕ)
 frameLine offset kind len = decimalOf offset ∷ codes " " ∷ decimalOf kind ∷ codes " " ∷ decimalOf len ∷ codes "\n" ∷ []
 
--- O3: the last line: the offset, and the count of frames or the refusal's number, which is 0 where there is none
-abbrev pub lastLine : ℕ → ℕ → ℕ → List (List ℕ)
-lastLine offset frames refused =
+-- O3: the last line: the offset, and the count of frames; or the refusal's number, which is 0 where there is none, and behind 1 how many bytes are
+-- missing
+abbrev pub lastLine : ℕ → ℕ → ℕ → ℕ → List (List ℕ)
+lastLine offset frames refused missing =
     cond (eqb refused 0)
     (decimalOf offset ∷ codes " end " ∷ decimalOf frames ∷ codes "\n" ∷ [])
-    (decimalOf offset ∷ codes " refused " ∷ decimalOf refused ∷ codes "\n" ∷ [])
+    (cond (eqb refused tooShort)
+    (decimalOf offset ∷ codes " refused " ∷ decimalOf refused ∷ codes " " ∷ decimalOf missing ∷ codes "\n" ∷ [])
+    (decimalOf offset ∷ codes " refused " ∷ decimalOf refused ∷ codes "\n" ∷ []))

@@ -3,6 +3,7 @@ ghost use mathlib.Core.Path.{_≡_};
 ghost use mathlib.Core.List.{[], _∷_};
 ghost use Rattle.wire.specs.Bytes.{putAt};
 ghost use Rattle.text.specs.Text.{decimalOf, offsetBehind, putEach, offsetBehindEach, frameLine, lastLine};
+use wire::answers;
 
 // A line of the listing is shorter than this.
 pub const LINE_ROOM: usize = 64;
@@ -56,14 +57,26 @@ pub fn frame_line(out: &mut [u8], at: usize, offset: u64, kind: u32, len: usize)
     followed(out, b, len as u64, b"\n")
 }
 
-// The listing's last line, for a refusal's number or 0 where there is none; answers as frame_line does.
-pub fn last_line(out: &mut [u8], at: usize, offset: u64, frames: u64, refused: u32) -> usize
-    ensures { λ r. ⌜ (now (out .exit) ≡ putEach (now (out .entry)) at (lastLine offset frames refused)) × (r ≡ offsetBehindEach (now (out .entry)) at (lastLine offset frames refused)) ⌝ }
+// The listing's last line, for a refusal's number, 0 where there is none, and how many bytes are missing, which stands behind 1
+// alone; answers as frame_line does.
+pub fn last_line(
+    out: &mut [u8],
+    at: usize,
+    offset: u64,
+    frames: u64,
+    refused: u32,
+    missing: usize,
+) -> usize
+    ensures { λ r. ⌜ (now (out .exit) ≡ putEach (now (out .entry)) at (lastLine offset frames refused missing)) × (r ≡ offsetBehindEach (now (out .entry)) at (lastLine offset frames refused missing)) ⌝ }
 {
     if refused == 0 {
         let a = followed(out, at, offset, b" end ");
         return followed(out, a, frames, b"\n");
     }
     let a = followed(out, at, offset, b" refused ");
+    if refused == answers::TOO_SHORT {
+        let b = followed(out, a, refused as u64, b" ");
+        return followed(out, b, missing as u64, b"\n");
+    }
     followed(out, a, refused as u64, b"\n")
 }

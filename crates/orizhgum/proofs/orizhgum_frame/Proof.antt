@@ -10,10 +10,10 @@ returns c = ap frameAnswer (sym (ap meansFramed (c .before .f .given .1)) ∙ c 
 
 returns-2 : tie.Need-returns-2
 returns-2 c =
-    rw (c .number .ensures)
-    (ap frameAnswer (sym (ap meansFramed (c .before .before .why .given .1)) ∙ c .before .before .before .before .read .ensures))
+    rw (c .before .number .ensures, c .missing .ensures)
+    (ap frameAnswer (sym (ap meansFramed (c .before .before .before .why .given .1)) ∙ c .before .before .before .before .before .read .ensures))
 
 pub orizhgum-frame-spec : {M : Type 1} → statement M
 orizhgum-frame-spec =
     tie.close
-    (tie.spec (λ c κs. search needs) (λ c. search needs) (λ c. search needs) (λ c κs. search needs) returns returns-2)
+    (tie.spec (λ c κs. search needs) (λ c. search needs) (λ c. search needs) (λ c κs. search needs) (λ c κs. search needs) returns returns-2)

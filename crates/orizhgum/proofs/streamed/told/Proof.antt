@@ -19,16 +19,18 @@ returns-2 : tie.Need-returns-2
 returns-2 c = shown _ _ (c .before .says2 .given .1)
 
 returns-3 : tie.Need-returns-3
-returns-3 c = c .no-frame .ensures ∙ shown _ _ (c .before .enum-told .given .1)
+returns-3 c = c .no-frame .ensures ∙ shown _ _ (c .before .before .says3 .given .1)
 
 returns-4 : tie.Need-returns-4
-returns-4 c = c .no-frame2 .ensures ∙ shown _ _ (c .before .enum-told2 .given .1)
+returns-4 c = c .no-frame2 .ensures ∙ shown _ _ (c .before .enum-told .given .1)
 
 returns-5 : tie.Need-returns-5
-returns-5 c = c .no-frame3 .ensures ∙ rw (c .before .number .ensures) (shown _ _ (c .before .before .before .says3 .given .1))
+returns-5 c =
+    let m = c .before in
+    c .no-frame3 .ensures ∙ rw (m .before .number .ensures, m .missing .ensures) (shown _ _ (m .before .before .before .says4 .given .1))
 
 returns-6 : tie.Need-returns-6
-returns-6 c = c .no-frame4 .ensures ∙ shown _ _ (c .before .enum-told3 .given .1)
+returns-6 c = c .no-frame4 .ensures ∙ shown _ _ (c .before .enum-told2 .given .1)
 
 pub told-spec : {M : Type 1} → statement M
 told-spec =
@@ -41,6 +43,7 @@ told-spec =
     (λ c. search needs)
     (λ c κs. search needs)
     (λ c. search needs)
+    (λ c κs. search needs)
     (λ c κs. search needs)
     (λ c κs. search needs)
     (λ c. search needs)

@@ -36,7 +36,7 @@ keep-all-requires c κs =
     let t = c .before in
     let a = t .before .before .before .before .before .args in
     few-lacking headerWidth bodyLimit (now (a .buffer)) (a .held) (now (a .cut)) (lit≤ tt) (holds (t .before) (omega (arith, t .if1 .taken)))
-    (rw (t .before .lacking .ensures) at (t .if1 .taken))
+    (t .before .lacking .ensures) (t .if1 .taken)
 
 returns : tie.Need-returns
 returns c =
@@ -93,6 +93,7 @@ behind-spec =
     tie.close
     (tie.spec
     (λ c κs. search needs)
+    (λ c. search needs)
     keep-all-requires
     (λ c. search needs)
     returns

@@ -57,7 +57,7 @@ returns c =
     let t = c .before .before .before .before .before .before in
     let b = t .before .before .before .before .before .before .before .before .before .before .before in
     let f = go-less headerWidth bodyLimit (now (b .args .buffer)) (b .args .held) (came b) (now (b .args .cut)) (lit≤ tt) (b .pre .0) (less t) in
-    (c .more .ensures ∙ f .0, rw (first-is (t .before .before .before .before .before .before)) at (c .before .before .before .keep .ensures) ∙ f .1)
+    (rw (resting (t .before)) at (c .more .ensures) ∙ f .0, rw (first-is (t .before .before .before .before .before .before)) at (c .before .before .before .keep .ensures) ∙ f .1)
 
 -- ---- it comes
 
@@ -136,6 +136,8 @@ lead-spec =
     (λ c. search needs)
     (λ c. search needs)
     keep-requires
+    (λ c. search needs)
+    (λ c. search needs)
     (λ c. search needs)
     (λ c κs. search needs)
     (λ c. search needs)

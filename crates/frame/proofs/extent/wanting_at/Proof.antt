@@ -1,8 +1,8 @@
 use mathlib.Core.Path.{sym}
 use borrow.Author.Needs.{needs}
 use Rattle.frame.proofs.Far.{in-header, above, in-body, at-end, wants}
-use Rattle.frame.proofs.missing.wanting_at.Statement.{statement}
-use Rattle.frame.proofs.missing.wanting_at.Tie as tie
+use Rattle.frame.proofs.extent.wanting_at.Statement.{statement}
+use Rattle.frame.proofs.extent.wanting_at.Tie as tie
 
 returns : tie.Need-returns
 returns c = sym (wants (in-header (c .if1 .taken)))

@@ -1,8 +1,8 @@
 use mathlib.Core.Path.{sym}
 use borrow.Author.Needs.{needs}
 use Rattle.frame.proofs.Far.{in-header, above, in-body, at-end, reaches}
-use Rattle.frame.proofs.missing.reach_at.Statement.{statement}
-use Rattle.frame.proofs.missing.reach_at.Tie as tie
+use Rattle.frame.proofs.extent.reach_at.Statement.{statement}
+use Rattle.frame.proofs.extent.reach_at.Tie as tie
 
 returns : tie.Need-returns
 returns c = sym (reaches (in-header (c .if1 .taken)))
