@@ -7,7 +7,7 @@
  * it: a frame how many bytes are missing, at 1; a step its cursor as it was handed in; and a stream what was taken, the next state,
  * at 1 how many bytes are missing and, at 2 and 3, the bytes that it gathered in its buffer.
  *
- * The archive links memcpy, memmove and memset, which the host has, and nothing else.
+ * The archive links memcpy, memmove and memset, which the host has, and nothing else; it has no divide instruction.
  *
  * Calls are reentrant: there is no state but what the host lends, and no heap. Threads may call at the same time, as long as
  * none writes what another reads or writes.
@@ -34,8 +34,8 @@ extern "C" {
 
 #define ORIZHGUM_VERSION_MAJOR 0
 #define ORIZHGUM_VERSION_MINOR 5
-#define ORIZHGUM_VERSION_PATCH 0
-#define ORIZHGUM_VERSION "0.5.0"
+#define ORIZHGUM_VERSION_PATCH 1
+#define ORIZHGUM_VERSION "0.5.1"
 
 /* ---- sizes in bytes, and decimals */
 

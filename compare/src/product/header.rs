@@ -583,7 +583,7 @@ fn sizes() -> String {
 }
 
 /// The version's three numbers.
-const VERSION: [usize; 3] = [0, 5, 0];
+const VERSION: [usize; 3] = [0, 5, 1];
 
 /// The version as one text.
 pub fn version() -> String {
