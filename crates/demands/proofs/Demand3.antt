@@ -27,7 +27,7 @@ use Rattle.tracker.specs.Rules.{wellFormed}
 use Rattle.tracker.proofs.Seated.{arrived-at}
 use Rattle.tracker.proofs.Unique.{named}
 use Rattle.tracker.proofs.Holder.{holder, at, holder-channel, holder-start, holder-well, Listed}
-use Rattle.demands.specs.Play.{Fresh, Turn, turn, Play, arrivals, only, answersTo, ifAccepted, historyOf, NeverFull, Has, channelOf, done, step}
+use Rattle.demands.specs.Play.{Fresh, Turn, turn, Play, arrivals, only, answersTo, ifAccepted, historyOf, NeverFull, Has, channelOf, startOf, done, step}
 use Rattle.demands.specs.Demand3.{HoldsItsList, TwoOrders, GapsFromHistory, MarksFromHistory, NineFromHistory, TickFromHistory, HeartbeatFromHistory, OthersRemoved, EverySetUpGives, EveryListPlays}
 use Rattle.demands.proofs.Calls.{set-up-as, arrives-as, sets-up, arrives}
 use Rattle.demands.proofs.Played.{seat, seat-listed, seat-same, seat-test, eventsAt, answersAt, Ends, ends as played, known-fresh, all-good}
@@ -153,7 +153,7 @@ module _ (ns : List ℕ) (k : ℕ) (h : seat ns k < length ns) where
 -- ---- a channel after a playing
 
 pub record View (ns : List ℕ) (t u : Tracker) (l : List Turn) (k : ℕ) : Type 0 where
-  pub right : Exact 1 (channelOf u k) (historyOf k l)
+  pub right : Exact (startOf t k) (channelOf u k) (historyOf k l)
   pub size : length (channelOf u k .runs) ≤ 32
   pub answer : (e : Event) (r : Reply) → meansReply r ≡ arrive u (on k e) → arrivalSaid (r .verdict) ≡ words (judgeEvent (channelOf u k) e)
 
@@ -196,7 +196,7 @@ pub gaps-from-history : GapsFromHistory
 gaps-from-history ns t u l f p k h n = forms (view ns t u l f p k h .right) .same n
 
 pub marks-from-history : MarksFromHistory
-marks-from-history ns t u l f p k h = let x = view ns t u l f p k h .right in (x .tops, x .marks)
+marks-from-history ns t u l f p k h = let x = view ns t u l f p k h .right in (x .own, x .tops, x .marks)
 
 pub nine-from-history : NineFromHistory
 nine-from-history ns t u l f p k h e r low q =

@@ -41,7 +41,7 @@ pub record Known (c : Channel) : Type 0 where
   pub high : c .highest ≤ mostNumber
 
 known-good : {c : Channel} → Known c → Good c
-known-good {c} k = record { small = k .size; high = k .high; order = yes-canon 1 (c .highest) (c .runs) (k .exact .order) }
+known-good {c} k = record { small = k .size; high = k .high; start = k .exact .own; order = yes-canon 1 (c .highest) (c .runs) (k .exact .order) }
 
 known-after : (c : Channel) (e : Event) → SFits w64 (numberOf e) → Known c → Known (after c e)
 known-after c e f k = go (judgeEvent c e) (judge c e)

@@ -31,7 +31,7 @@ use Rattle.tracker.proofs.FirstRun.{first-of, first-lies}
 use Rattle.tracker.specs.Request.{batch, asked, spaces, numbersFor, requestFrame, requestLength, roomForRequest, written, nothing, answerOf, outputAsked}
 use Rattle.tracker.proofs.Batch.{asked-all, asked-batch, asked-within}
 use Rattle.tracker.proofs.Fitting.{request-length, judged-request, answers-by, leaves-by}
-use Rattle.demands.specs.Play.{Turn, historyOf, channelOf}
+use Rattle.demands.specs.Play.{Turn, historyOf, channelOf, startOf}
 use Rattle.demands.proofs.Calls.{frame-read-as, read-frame-as, request-as}
 use Rattle.demands.specs.Requests.{Asks, Requests, RequestReads, Misses, AsksForMissing, RequestAsksForMissing, NothingIsMissing}
 use Rattle.demands.proofs.Back.{back-known}
@@ -109,24 +109,24 @@ behind : (lo h : ℕ) (r : Run) (l : List Run) → Canon lo h (r ∷ l) → In (
 behind lo h r l c (inl w) = omega (arith, w .1)
 behind lo h r l c (inr w) = omega (arith, low (r .last + 2) h l (r .last + 1) (c .3) w)
 
-module _ (u : Tracker) (l : List Turn) (k : ℕ) (x : Exact 1 (channelOf u k) (historyOf k l)) (r : Run) (f : Front (channelOf u k .runs) r) where
-  order : Canon 1 (channelOf u k .highest) (r ∷ f .rest)
-  order = subst (Canon 1 (channelOf u k .highest)) (f .same) (x .order)
+module _ (t u : Tracker) (l : List Turn) (k : ℕ) (x : Exact (startOf t k) (channelOf u k) (historyOf k l)) (r : Run) (f : Front (channelOf u k .runs) r) where
+  order : Canon (startOf t k) (channelOf u k .highest) (r ∷ f .rest)
+  order = subst (Canon (startOf t k) (channelOf u k .highest)) (f .same) (x .order)
 
-  within : (n : ℕ) → Misses k l n → In (r ∷ f .rest) n
+  within : (n : ℕ) → Misses t k l n → In (r ∷ f .rest) n
   within n m = subst (λ (y : List Run). In y n) (f .same) (x .back n m)
 
-  lacks : (n : ℕ) → r .first ≤ n → n ≤ r .last → Misses k l n
+  lacks : (n : ℕ) → r .first ≤ n → n ≤ r .last → Misses t k l n
   lacks n a b = x .out n (subst (λ (y : List Run). In y n) (sym (f .same)) (inl (a, b)))
 
-  lowest : (n : ℕ) → Misses k l n → r .first ≤ n
+  lowest : (n : ℕ) → Misses t k l n → r .first ≤ n
   lowest n m = low (r .first) (channelOf u k .highest) (r ∷ f .rest) n (omega arith, order .1, order .2, order .3) (within n m)
 
-  full : (r .last < r .first + batch) ⊎ (r .first + batch ≤ r .last) → Misses k l (asked r .last + 1) → asked r .last + 1 ≡ asked r .first + batch
-  full (inl h) m = absurd (behind 1 (channelOf u k .highest) r (f .rest) order (within (r .last + 1) (rw (asked-all r h) at m)))
+  full : (r .last < r .first + batch) ⊎ (r .first + batch ≤ r .last) → Misses t k l (asked r .last + 1) → asked r .last + 1 ≡ asked r .first + batch
+  full (inl h) m = absurd (behind (startOf t k) (channelOf u k .highest) r (f .rest) order (within (r .last + 1) (rw (asked-all r h) at m)))
   full (inr h) m = rw (asked-batch r h) (omega arith)
 
-  asks-missing : (s : List ℕ) → Asks k (asked r) s → AsksForMissing k l s
+  asks-missing : (s : List ℕ) → Asks k (asked r) s → AsksForMissing t k l s
   asks-missing s a =
       let w = asked-within r in
       record {
@@ -150,7 +150,7 @@ pub request-asks-for-missing : RequestAsksForMissing
 request-asks-for-missing ns t u l f p k h c out after a n call e =
     let q = request-reads u k out after a n c call e in
     let g = front (channelOf u k .runs) (q .run) (first-of u k (lost (q .run)) (q .first) .same) in
-    asks-missing u l k (view ns t u l f p k h .right) (q .run) g after (q .asks)
+    asks-missing t u l k (view ns t u l f p k h .right) (q .run) g after (q .asks)
 
 -- "nothing missing" is answered where the channel has no run
 none-first : (u : Tracker) (k room : ℕ) (x : Answer Lost) → firstRun u k ≡ x → answerOf (andThen x (roomForRequest room)) ≡ accepted nothing → firstRun u k ≡ accepted nothingMissing

@@ -12,11 +12,10 @@ use Rattle.gaps.specs.Channel.{Event, tick, heartbeat, new, late, duplicate, he
 use Rattle.gaps.specs.History.{Brought, top, ends, Missing, Overfull}
 use Rattle.tracker.specs.declared.Tracker.{Tracker}
 use Rattle.tracker.specs.declared.Reply.{Reply}
-use Rattle.seats.specs.Places.{lowestNumber}
 use Rattle.tracker.specs.SetUp.{setUp}
 use Rattle.tracker.specs.Arrived.{Arrival, on, arrivalSaid}
 use Rattle.demands.specs.Calls.{Arrives}
-use Rattle.demands.specs.Play.{Fresh, Turn, Play, arrivals, only, answersTo, historyOf, NeverFull, Has, channelOf, AllCallable, Playable}
+use Rattle.demands.specs.Play.{Fresh, Turn, Play, arrivals, only, answersTo, historyOf, NeverFull, Has, channelOf, startOf, AllCallable, Playable}
 
 -- T1: the channels that a fresh gap record holds are those of its list
 abbrev pub HoldsItsList : Type 0
@@ -32,33 +31,33 @@ TwoOrders =
 abbrev pub GapsFromHistory : Type 0
 GapsFromHistory =
     (numbers : List ℕ) (t u : Tracker) (l : List Turn) → Fresh numbers t → Play t l u → (k : ℕ) → Has t k →
-    (n : ℕ) → (has (channelOf u k .runs) n ≡ true) ↔ Missing lowestNumber (historyOf k l) n
+    (n : ℕ) → (has (channelOf u k .runs) n ≡ true) ↔ Missing (startOf t k) (historyOf k l) n
 
--- D33: the highest and the ended mark are the history's too
+-- D33: the first number stays, and the highest and the ended mark are the history's too
 abbrev pub MarksFromHistory : Type 0
 MarksFromHistory =
     (numbers : List ℕ) (t u : Tracker) (l : List Turn) → Fresh numbers t → Play t l u → (k : ℕ) → Has t k →
-    (channelOf u k .highest ≡ top lowestNumber (historyOf k l)) × (channelOf u k .ended ≡ ends (historyOf k l))
+    (startOf u k ≡ startOf t k) × (channelOf u k .highest ≡ top (startOf t k) (historyOf k l)) × (channelOf u k .ended ≡ ends (historyOf k l))
 
--- the next arrival e on channel k would need a 33rd run
-abbrev pub WouldFill : ℕ → List Turn → Event → Type 0
-WouldFill k l e = Overfull lowestNumber (historyOf k l ++ (e ∷ []))
+-- the next arrival e on channel k of the record t would need a 33rd run
+abbrev pub WouldFill : Tracker → ℕ → List Turn → Event → Type 0
+WouldFill t k l e = Overfull (startOf t k) (historyOf k l ++ (e ∷ []))
 
 -- D33: 9 exactly when the gaps of the history with this arrival would form more than 32 runs
 abbrev pub NineFromHistory : Type 0
 NineFromHistory =
     (numbers : List ℕ) (t u : Tracker) (l : List Turn) → Fresh numbers t → Play t l u → (k : ℕ) → Has t k →
     (e : Event) (r : Reply) → tooLow e ≡ false → Arrives u (on k e) r →
-    (arrivalSaid (r .verdict) ≡ refused tableFull []) ↔ WouldFill k l e
+    (arrivalSaid (r .verdict) ≡ refused tableFull []) ↔ WouldFill t k l e
 
 -- D33: else new exactly when above the history's highest, late exactly when not above it and not brought, duplicate exactly when brought
 abbrev pub TickFromHistory : Type 0
 TickFromHistory =
     (numbers : List ℕ) (t u : Tracker) (l : List Turn) → Fresh numbers t → Play t l u → (k : ℕ) → Has t k →
     (n : ℕ) (r : Reply) → 1 ≤ n → Arrives u (on k (tick (pos n))) r →
-    ((arrivalSaid (r .verdict) ≡ accepted new) ↔ ((top lowestNumber (historyOf k l) < n) × (WouldFill k l (tick (pos n)) → ⊥)))
+    ((arrivalSaid (r .verdict) ≡ accepted new) ↔ ((top (startOf t k) (historyOf k l) < n) × (WouldFill t k l (tick (pos n)) → ⊥)))
     × ((arrivalSaid (r .verdict) ≡ accepted late)
-    ↔ ((n ≤ top lowestNumber (historyOf k l)) × (Brought (historyOf k l) n → ⊥) × (WouldFill k l (tick (pos n)) → ⊥)))
+    ↔ ((n ≤ top (startOf t k) (historyOf k l)) × (Brought (historyOf k l) n → ⊥) × (WouldFill t k l (tick (pos n)) → ⊥)))
     × ((arrivalSaid (r .verdict) ≡ accepted duplicate) ↔ Brought (historyOf k l) n)
 
 -- D33: and a heartbeat's answer is heard exactly when it is not 9
@@ -66,7 +65,7 @@ abbrev pub HeartbeatFromHistory : Type 0
 HeartbeatFromHistory =
     (numbers : List ℕ) (t u : Tracker) (l : List Turn) → Fresh numbers t → Play t l u → (k : ℕ) → Has t k →
     (m : ℕ) (end : Bool) (r : Reply) → Arrives u (on k (heartbeat (pos m) end)) r →
-    (arrivalSaid (r .verdict) ≡ accepted heard) ↔ (WouldFill k l (heartbeat (pos m) end) → ⊥)
+    (arrivalSaid (r .verdict) ≡ accepted heard) ↔ (WouldFill t k l (heartbeat (pos m) end) → ⊥)
 
 -- D34: without the other channels' arrivals a channel's record and its answers are the same, 9 among them
 abbrev pub OthersRemoved : Type 0

@@ -10,7 +10,7 @@ use lib.IntN.{pos, negsuc}
 use borrow.Author.Tests.{le-leb, lt-leb, lt-ltb, le-ltb}
 use Rattle.gaps.specs.declared.Run.{Run}
 use Rattle.gaps.specs.Gaps.{larger, has, cutAll, fill}
-use Rattle.gaps.specs.Channel.{Channel, fresh, Event, tick, heartbeat, new, late, duplicate, natural, ticked, announced, taken, tooLow}
+use Rattle.gaps.specs.Channel.{Channel, fresh, changed, Event, tick, heartbeat, new, late, duplicate, natural, ticked, announced, taken, tooLow}
 use Rattle.gaps.specs.History.{Brought, top, ends, Missing, Forms}
 use Rattle.gaps.proofs.Numbers.{lt-or-le, larger-of, larger-is}
 use Rattle.gaps.proofs.Sets.{In, Canon, widen, unique, canon-yes, yes-canon, has-in, in-has, cut-out, cut-in, cut-canon, grow-out, grow-old, grow-new, grow-canon}
@@ -20,12 +20,12 @@ use Rattle.gaps.proofs.History.{brought-split, brought-left, brought-ri
 
 module _ (c : Channel) (n : ℕ) where
   pub ticked-new : c .highest < n →
-      ticked c n ≡ record { said = new; next = record { highest = n; ended = c .ended; runs = fill (c .runs) (c .highest) (n - 1) } }
+      ticked c n ≡ record { said = new; next = changed c n (c .ended) (fill (c .runs) (c .highest) (n - 1)) }
   unfolding ticked
   ticked-new h = rw (lt-ltb (c .highest) n h)
 
   pub ticked-late : n ≤ c .highest → has (c .runs) n ≡ true →
-      ticked c n ≡ record { said = late; next = record { highest = c .highest; ended = c .ended; runs = cutAll (c .runs) n } }
+      ticked c n ≡ record { said = late; next = changed c (c .highest) (c .ended) (cutAll (c .runs) n) }
   unfolding ticked
   ticked-late h e = rw (le-ltb (c .highest) n h, e)
 
@@ -58,6 +58,7 @@ module _ (from : ℕ) (l : List Run) (h m : ℕ) (c : Canon from h l) where
 -- ---- the record is what the history says
 
 pub record Exact (from : ℕ) (c : Channel) (h : List Event) : Type 0 where
+  pub own : c .from ≡ from
   pub start : from ≤ c .highest + 1
   pub order : Canon from (c .highest) (c .runs)
   pub tops : c .highest ≡ top from h
@@ -67,13 +68,10 @@ pub record Exact (from : ℕ) (c : Channel) (h : List Event) : Type 0 where
 
 pub fresh-exact : (from : ℕ) → 1 ≤ from → Exact from (fresh from) []
 fresh-exact from p =
-    record { start = omega arith; order = tt; tops = refl; marks = refl; out = λ n w. absurd w; back = λ n w. absurd (omega arith) }
+    record { own = refl; start = omega arith; order = tt; tops = refl; marks = refl; out = λ n w. absurd w; back = λ n w. absurd (omega arith) }
 
-abbrev channelOf : ℕ → Bool → List Run → Channel
-channelOf h e l = record { highest = h; ended = e; runs = l }
-
-channel-ext : (c d : Channel) → c .highest ≡ d .highest → c .ended ≡ d .ended → c .runs ≡ d .runs → c ≡ d
-channel-ext c d a b e = let z : channelOf (c .highest) (c .ended) (c .runs) ≡ channelOf (d .highest) (d .ended) (d .runs) = rw (a, b, e) in z
+channel-ext : (c d : Channel) → c .from ≡ d .from → c .highest ≡ d .highest → c .ended ≡ d .ended → c .runs ≡ d .runs → c ≡ d
+channel-ext c d s a b e = λ i. record { from = s i; highest = a i; ended = b i; runs = e i }
 
 -- two records of histories that say the same are one record
 pub determined : {from : ℕ} {c d : Channel} {g h : List Event} → Exact from c g → Exact from d h → top from g ≡ top from h → ends g ≡ ends h →
@@ -82,7 +80,7 @@ determined {from} {c} {d} x y t z p q =
     let l : c .runs ≡ d .runs = unique (c .runs) (d .runs) from (c .highest) from (d .highest) (x .order) (y .order)
     (λ n w. let v = x .out n w in y .back n (v .0, omega (arith, v .1, t), λ b. v .2 (q n b)))
     (λ n w. let v = y .out n w in x .back n (v .0, omega (arith, v .1, t), λ b. v .2 (p n b))) in
-    channel-ext c d (x .tops ∙ t ∙ sym (y .tops)) (x .marks ∙ z ∙ sym (y .marks)) l
+    channel-ext c d (x .own ∙ sym (y .own)) (x .tops ∙ t ∙ sym (y .tops)) (x .marks ∙ z ∙ sym (y .marks)) l
 
 -- its runs are the runs that the history's missing numbers form, and no others are
 pub forms : {from : ℕ} {c : Channel} {h : List Event} → Exact from c h → Forms from h (c .runs)
@@ -120,12 +118,13 @@ module _ (from : ℕ) (c : Channel) (h : List Event) (x : Exact from c h) where
     top-kept : n ≤ c .highest → top from (h ++ (tick (pos n) ∷ [])) ≡ c .highest
     top-kept g = top-more from h (tick (pos n)) ∙ larger-is (top from h) n (c .highest) (omega (arith, x .tops)) g (inl (x .tops))
 
-    at-new : c .highest < n → Exact from (record { highest = n; ended = c .ended; runs = fill (c .runs) (c .highest) (n - 1) }) (h ++ (tick (pos n) ∷ []))
+    at-new : c .highest < n → Exact from (changed c n (c .ended) (fill (c .runs) (c .highest) (n - 1))) (h ++ (tick (pos n) ∷ []))
     at-new g =
         let k = x .order in
         let t : top from (h ++ (tick (pos n) ∷ [])) ≡ n = top-more from h (tick (pos n)) ∙ larger-is (top from h) n n (omega (arith, x .tops)) (le-refl _) (inr refl) in
         let b : larger (c .highest) (n - 1) ≤ n = ⊎-elim (λ w. omega arith) (λ w. omega arith) (larger-of (c .highest) (n - 1) .2) in
         record {
+          own = x .own;
           start = omega (arith, x .start);
           order = widen from from _ n (fill (c .runs) (c .highest) (n - 1)) (le-refl _) b (fill-canon from (c .runs) (c .highest) (n - 1) k (x .start));
           tops = sym t;
@@ -140,10 +139,11 @@ module _ (from : ℕ) (c : Channel) (h : List Event) (x : Exact from c h) where
               (lt-or-le (c .highest) i);
         }
 
-    at-late : n ≤ c .highest → Exact from (record { highest = c .highest; ended = c .ended; runs = cutAll (c .runs) n }) (h ++ (tick (pos n) ∷ []))
+    at-late : n ≤ c .highest → Exact from (changed c (c .highest) (c .ended) (cutAll (c .runs) n)) (h ++ (tick (pos n) ∷ []))
     at-late g =
         let t = top-kept g in
         record {
+          own = x .own;
           start = x .start;
           order = cut-canon from (c .highest) (c .runs) n (x .order);
           tops = sym t;
@@ -157,6 +157,7 @@ module _ (from : ℕ) (c : Channel) (h : List Event) (x : Exact from c h) where
     at-again g free =
         let t = top-kept g in
         record {
+          own = x .own;
           start = x .start;
           order = x .order;
           tops = sym t;
@@ -185,6 +186,7 @@ module _ (from : ℕ) (c : Channel) (h : List Event) (x : Exact from c h) where
         let t : top from (h ++ (heartbeat (pos m) end ∷ [])) ≡ larger (c .highest) m = top-more from h (heartbeat (pos m) end) ∙ ap (λ (y : ℕ). larger y m) (sym (x .tops)) in
         let o = larger-of (c .highest) m in
         record {
+          own = x .own;
           start = omega (arith, x .start, o .0);
           order = fill-canon from (c .runs) (c .highest) m k (x .start);
           tops = sym t;

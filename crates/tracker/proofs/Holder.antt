@@ -107,6 +107,7 @@ at cs i = getD cs i (fresh 1)
 pub record Good (c : Channel) : Type 0 where
   pub small : length (c .runs) ≤ 32
   pub high : c .highest ≤ mostNumber
+  pub start : c .from ≡ 1
   pub order : canon 1 (c .highest) (c .runs) ≡ true
 
 abbrev pub AllGood : List Channel → Type 0
@@ -273,7 +274,9 @@ module _ (ns : List ℕ) (cs : List Channel) (w : AllGood cs) where
   pub holder-channel : (i : ℕ) → i < length cs → channelAt (holder ns cs) i ≡ at cs i
   holder-channel i h =
       let g = good-at cs i w h in
-      rw (high-at i h, mark-at i h, size-at i h, row-runs (holder ns cs .first) (holder ns cs .last) (i * 32) (at cs i .runs) (g .small) (first-row i h) (last-row i h))
+      let r : channelAt (holder ns cs) i .runs ≡ at cs i .runs =
+      rw (size-at i h) (row-runs (holder ns cs .first) (holder ns cs .last) (i * 32) (at cs i .runs) (g .small) (first-row i h) (last-row i h)) in
+      λ x. record { from = sym (g .start) x; highest = high-at i h x; ended = mark-at i h x; runs = r x }
 
   holder-row : (i : ℕ) → i < length cs →
       soundRow (getD (holder ns cs .highest) i 0) (getD (holder ns cs .counts) i 0) (holder ns cs .first) (holder ns cs .last) (i * 32) ≡ true
@@ -345,7 +348,7 @@ holder-well ns cs o e w =
 
 good-fresh : Good (fresh 1)
 unfolding canon
-good-fresh = record { small = omega arith; high = omega arith; order = refl }
+good-fresh = record { small = omega arith; high = omega arith; start = refl; order = refl }
 
 pub good-start : (n : ℕ) → AllGood (replicate n (fresh 1))
 good-start zero = tt

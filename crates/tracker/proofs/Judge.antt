@@ -15,7 +15,7 @@ use Rattle.wire.specs.Answer.{Answer, accepted, refused, guard}
 use Rattle.gaps.specs.declared.Run.{Run}
 use Rattle.gaps.specs.Gaps.{run, larger, has, cut, cutAll, grow, fill}
 use Rattle.wire.specs.Refusal.{numberTooLow, tableFull}
-use Rattle.gaps.specs.Channel.{Channel, Event, tick, heartbeat, ArrivalSaid, new, late, duplicate, heard, announced, taken, tooLow, judgeEvent, natural}
+use Rattle.gaps.specs.Channel.{Channel, changed, Event, tick, heartbeat, ArrivalSaid, new, late, duplicate, heard, announced, taken, tooLow, judgeEvent, natural}
 use Rattle.gaps.proofs.Numbers.{larger-is}
 use Rattle.gaps.proofs.Cut.{cut-low, cut-high, cut-whole, cut-front, cut-back, cut-mid}
 use Rattle.gaps.proofs.Sets.{Canon, canon-yes}
@@ -52,14 +52,14 @@ module _ (t : Tracker) (i : ℕ) (a : Answer ArrivalSaid) (h : ℕ) (e : Bool) (
   unfolding storedOrFull
   stored-full p = rw (lt-ltb 32 (length l) p)
 
-  pub stored-fits : length l ≤ 32 → storedOrFull t i a h e l ≡ record { said = a; next = put t i (record { highest = h; ended = e; runs = l }) }
+  pub stored-fits : length l ≤ 32 → storedOrFull t i a h e l ≡ record { said = a; next = put t i (changed (channelAt t i) h e l) }
   unfolding storedOrFull
   stored-fits p = rw (le-ltb 32 (length l) p)
 
 -- an event that 8 does not refuse
 settled-stored : (t : Tracker) (i : ℕ) (c : Channel) (e : Event) → tooLow e ≡ false →
     settled t i (judgeEvent c e) ≡ storedOrFull t i (accepted (taken c e .said)) (taken c e .next .highest) (taken c e .next .ended) (taken c e .next .runs)
-unfolding judgeEvent storedOrFull guard
+unfolding judgeEvent storedOrFull guard put
 settled-stored t i c e p = rw p (go (ltb 32 (length (taken c e .next .runs))))
   where
     go : (b : Bool) → settled t i (guard b (refused tableFull []) (accepted (taken c e))) ≡

@@ -11,7 +11,7 @@ use borrow.Author.Tests.{leb-true}
 use Rattle.gaps.specs.declared.Run.{Run}
 use Rattle.gaps.specs.Gaps.{canon}
 use Rattle.gaps.specs.Limits.{mostNumber}
-use Rattle.gaps.specs.Channel.{Channel}
+use Rattle.gaps.specs.Channel.{changed}
 use Rattle.gaps.specs.Built.{firsts, lasts, padded}
 use Rattle.gaps.proofs.Numbers.{and-split}
 use Rattle.tracker.specs.declared.Tracker.{Tracker}
@@ -73,13 +73,10 @@ mended t i highest ended count p x =
       last = set (t .last) p (x .last);
     }
 
-abbrev pub record-of : ℕ → Bool → List Run → Channel
-record-of h e l = record { highest = h; ended = e; runs = l }
-
 put-one : (t : Tracker) (i h : ℕ) (e : Bool) (l : List Run) (j : ℕ) (x : Run) → j < 32 →
     padded 32 (firsts l) ≡ set (cells (t .first) (i * 32) 32) j (x .first) →
     padded 32 (lasts l) ≡ set (cells (t .last) (i * 32) 32) j (x .last) →
-    put t i (record-of h e l) ≡ mended t i h e (length l) (i * 32 + j) x
+    put t i (changed (channelAt t i) h e l) ≡ mended t i h e (length l) (i * 32 + j) x
 unfolding put
 put-one t i h e l j x m p q = rw (p, q, sets-set (t .first) (i * 32) 32 j (x .first) m, sets-set (t .last) (i * 32) 32 j (x .last) m)
 
@@ -101,7 +98,7 @@ module _ (f : List ℕ) (b n j : ℕ) (s : j ≤ n) (r : n ≤ j + 1) (m : j < 3
 
 module _ (t : Tracker) (i : ℕ) (w : RowOf t i) where
   pub put-pushed : (h : ℕ) (e : Bool) (j : ℕ) (x : Run) → j ≤ getD (t .counts) i 0 → getD (t .counts) i 0 ≤ j + 1 → j < 32 →
-      put t i (record-of h e (take j (channelAt t i .runs) ++ (x ∷ []))) ≡ mended t i h e (j + 1) (i * 32 + j) x
+      put t i (changed (channelAt t i) h e (take j (channelAt t i .runs) ++ (x ∷ []))) ≡ mended t i h e (j + 1) (i * 32 + j) x
   put-pushed h e j x s r m =
       let f = t .first in
       let l = t .last in
@@ -116,7 +113,7 @@ module _ (t : Tracker) (i : ℕ) (w : RowOf t i) where
       ∙ ap (λ (a : ℕ). mended t i h e a (i * 32 + j) x) c
 
   pub put-set : (h : ℕ) (e : Bool) (j : ℕ) (x : Run) → j < getD (t .counts) i 0 →
-      put t i (record-of h e (set (channelAt t i .runs) j x)) ≡ mended t i h e (getD (t .counts) i 0) (i * 32 + j) x
+      put t i (changed (channelAt t i) h e (set (channelAt t i .runs) j x)) ≡ mended t i h e (getD (t .counts) i 0) (i * 32 + j) x
   put-set h e j x s =
       let f = t .first in
       let l = t .last in
@@ -134,7 +131,7 @@ module _ (t : Tracker) (i : ℕ) (w : RowOf t i) where
       map-set f (r ∷ l) (suc j) x = rw (map-set f l j x)
 
   -- the same runs, with another highest and mark
-  pub put-runs : (h : ℕ) (e : Bool) → put t i (record-of h e (channelAt t i .runs)) ≡
+  pub put-runs : (h : ℕ) (e : Bool) → put t i (changed (channelAt t i) h e (channelAt t i .runs)) ≡
       record {
         count = t .count;
         numbers = t .numbers;

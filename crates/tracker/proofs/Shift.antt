@@ -9,6 +9,7 @@ use lib.ListN.{length, take, drop, getD, set, replicate, length-append}
 use lib.Seq.{sets}
 use Rattle.gaps.specs.declared.Run.{Run}
 use Rattle.gaps.specs.Gaps.{run}
+use Rattle.gaps.specs.Channel.{changed}
 use Rattle.gaps.specs.Built.{firsts, lasts, padded}
 use Rattle.seats.specs.Places.{span}
 use Rattle.rows.specs.Shift.{closing, opening, closed, opened}
@@ -17,7 +18,7 @@ use Rattle.tracker.specs.declared.Tracker.{Tracker}
 use Rattle.tracker.specs.Places.{mark, channelAt, put}
 use Rattle.tracker.specs.Inside.{shut, cleft}
 use Rattle.tracker.proofs.Row.{cells, cells-length, cells-add, cells-before, sets-same, span-firsts, span-lasts, span-length, span-take}
-use Rattle.tracker.proofs.Put.{RowOf, record-of, zeros-later}
+use Rattle.tracker.proofs.Put.{RowOf, zeros-later}
 
 -- ---- numbers moved by one place are numbers laid
 
@@ -137,7 +138,7 @@ module _ (t : Tracker) (i : ℕ) (w : RowOf t i) (a : i < 8) (j : ℕ) (m : j < 
       ∙ rw (length-append xs (span (t .first) (t .last) (i * 32 + suc j) (n - suc j)), span-length (t .first) (t .last) (i * 32) j, span-length (t .first) (t .last) (i * 32 + suc j) (n - suc j)))
 
   -- the run at place j goes
-  pub put-shut : (h : ℕ) (e : Bool) → put t i (record-of h e (take j (channelAt t i .runs) ++ drop (suc j) (channelAt t i .runs))) ≡
+  pub put-shut : (h : ℕ) (e : Bool) → put t i (changed (channelAt t i) h e (take j (channelAt t i .runs) ++ drop (suc j) (channelAt t i .runs))) ≡
       record {
         count = t .count;
         numbers = t .numbers;
@@ -184,7 +185,7 @@ module _ (t : Tracker) (i : ℕ) (w : RowOf t i) (a : i < 8) (j : ℕ) (m : j < 
         (ap (λ (x : List ℕ). sets (t .last) (i * 32) (padded 32 (cells (t .last) (i * 32) j ++ ((v - 1) ∷ x)))) (sym c)
         ∙ opened-field (t .last) (i * 32) n (w .lasts-zero) j (v - 1) (omega arith) k (omega arith))
 
-    pub put-cleft : (h : ℕ) (e : Bool) → put t i (record-of h e (take j (channelAt t i .runs) ++ (halves ++ drop (suc j) (channelAt t i .runs)))) ≡
+    pub put-cleft : (h : ℕ) (e : Bool) → put t i (changed (channelAt t i) h e (take j (channelAt t i .runs) ++ (halves ++ drop (suc j) (channelAt t i .runs)))) ≡
         record {
           count = t .count;
           numbers = t .numbers;

@@ -10,7 +10,7 @@ use Rattle.wire.specs.Refusal.{noSuchChannel, tableFull, malformed}
 use Rattle.gaps.specs.declared.Run.{Run}
 use Rattle.gaps.specs.Limits.{runLimit}
 use Rattle.gaps.specs.Gaps.{grow}
-use Rattle.gaps.specs.Channel.{Event, ArrivalSaid, tooLow, judgeEvent}
+use Rattle.gaps.specs.Channel.{changed, Event, ArrivalSaid, tooLow, judgeEvent}
 use Rattle.seats.specs.Arrays.{Lent, Passed, inArrays}
 use Rattle.seats.specs.Places.{channelLimit, placeCount}
 use Rattle.seats.specs.Rules.{soundRow}
@@ -71,7 +71,7 @@ unfoldable pub storedOrFull : Tracker → ℕ → Answer ArrivalSaid → ℕ →
 storedOrFull t i a highest ended runs =
     cond (ltb runLimit (length runs))
     (record { said = refused tableFull []; next = t })
-    (record { said = a; next = put t i (record { highest = highest; ended = ended; runs = runs }) })
+    (record { said = a; next = put t i (changed (channelAt t i) highest ended runs) })
 
 -- T6, T9: the record whose numbers behind the highest, up to m, are missing
 abbrev pub raising : ℕ → Answer ArrivalSaid → ℕ → Bool → ℕ → Tracker → Outcome

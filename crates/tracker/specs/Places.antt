@@ -8,7 +8,7 @@ use Rattle.gaps.specs.Limits.{runLimit}
 use Rattle.gaps.specs.Channel.{Channel}
 use Rattle.gaps.specs.Built.{firsts, lasts, padded}
 use Rattle.seats.specs.Arrays.{Arrays, arrays}
-use Rattle.seats.specs.Places.{span}
+use Rattle.seats.specs.Places.{lowestNumber, span}
 use Rattle.tracker.specs.declared.Tracker.{Tracker}
 
 -- the tracker of a count and arrays, and those of a tracker
@@ -35,12 +35,13 @@ mark e = cond e 1 0
 abbrev pub channelAt : Tracker → ℕ → Channel
 channelAt t i =
     record {
+      from = lowestNumber;
       highest = getD (t .highest) i 0;
       ended = eqb (getD (t .ended) i 0) 1;
       runs = span (t .first) (t .last) (i * runLimit) (getD (t .counts) i 0);
     }
 
--- T4, T5: the tracker with this record at place i, zero in the places behind its runs; nothing else changes
+-- T4, T5: the tracker with this record's highest, mark and runs at place i, zero in the places behind the runs; nothing else changes
 unfoldable pub put : Tracker → ℕ → Channel → Tracker
 put t i c =
     record {
