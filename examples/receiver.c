@@ -1,10 +1,14 @@
-/* A receiver of two channels: reads a capture of any length from standard input, as it would read a socket, prints the levels of
- * each snapshot, tracks which numbers never came, and asks for them.
+/* A receiver of two channels that joins them late: reads a capture of any length from standard input, as it would read a socket,
+ * prints the levels of each snapshot, tracks which numbers never came since it joined, and asks for them.
  *
  *     ./install target/prefix
  *     export PKG_CONFIG_PATH=$PWD/target/prefix/lib/pkgconfig
  *     cc examples/receiver.c $(pkg-config --cflags --libs orizhgum) -o receiver
  *     ./receiver < samples/opening.bin
+ *     ./receiver < samples/noon.bin
+ *
+ * It counts from the first numbers of its set-up on. Of opening.bin it gets numbers below them too, which are before start;
+ * noon.bin is the same feed for a board that is switched on later: the numbers below never come, and are not missing.
  *
  * It reads in cuts of any size, at most 65536 bytes; `./receiver BYTES` makes them smaller. `./receiver exact` reads what is
  * missing and no more: first a header, then as many bytes as the last answer says. Where no read is short these are two reads a
@@ -22,9 +26,14 @@
  *  7 NO_SUCH_CHANNEL a channel that it did not ask for: passes the arrival over
  *  8 NUMBER_TOO_LOW  never for a number of an accepted record: passes the arrival over
  *  9 TABLE_FULL      the channel has more gaps than the tracker holds, and the arrival is not counted: asks for what is missing,
- *                    or sets up a tracker anew
- * 10 MALFORMED       a list of channels that is not ascending, a tracker or a stream that was changed by hand, or a buffer of
- *                    fewer than ORIZHGUM_FRAME_LIMIT bytes: its own fault, stops
+ *                    or sets up a tracker anew, with a later first number
+ * 10 MALFORMED       channels that do not ascend, first numbers below 1 or not as many as channels, a tracker or a stream that was
+ *                    changed by hand, or a buffer of fewer than ORIZHGUM_FRAME_LIMIT bytes: its own fault, stops
+ *
+ * On a tick's other answers:
+ * 103 LATE           a number that was missing: takes the record, and asks for it no more
+ * 104 DUPLICATE      a number that had come: passes the record over
+ * 108 BEFORE_START   a number below the channel's first number: passes the record over; nobody asks for it
  *
  * And on the stream's other answers:
  * 106 MORE           the cut is taken, and no frame is whole yet: reads the next cut, of any size. missing is what the header lacks
@@ -34,6 +43,7 @@
 
 #include "orizhgum.h"
 
+#include <assert.h>
 #include <errno.h>
 #include <inttypes.h>
 #include <stdbool.h>
@@ -43,7 +53,7 @@
 
 #define CUT_LIMIT 65536
 
-_Static_assert(ORIZHGUM_FRAME_LIMIT <= CUT_LIMIT, "a cut has room for what a frame lacks");
+static_assert(ORIZHGUM_FRAME_LIMIT <= CUT_LIMIT, "a cut has room for what a frame lacks");
 
 static struct orizhgum_tracker tracker;
 
@@ -108,7 +118,8 @@ static int print_snapshot(uint64_t offset, const uint8_t *body, size_t length)
             return 0;
         }
         if (step.answer != ORIZHGUM_OK) {
-            return 1; /* never, for a body that was accepted */
+            refused(offset, step.answer); /* never, for a body that was accepted */
+            return 1;
         }
         if (step.entry.says == ORIZHGUM_SAYS_LEVEL || step.entry.says == ORIZHGUM_SAYS_LEVEL_WITHOUT_PRICE) {
             print_level(&step.entry, price);
@@ -144,13 +155,29 @@ static void print_request(uint64_t offset, uint16_t channel)
     printf("\n");
 }
 
+/* what a tick is that is not new; NULL where it is new or refused, and for a heartbeat */
+static const char *word(uint32_t answer)
+{
+    switch (answer) {
+    case ORIZHGUM_LATE:
+        return "late";
+    case ORIZHGUM_DUPLICATE:
+        return "duplicate";
+    case ORIZHGUM_BEFORE_START:
+        return "before start";
+    default:
+        return NULL;
+    }
+}
+
 /* tells of an arrival, and asks where it opened a run: there were `before` of them. One that is refused by 7, 8 or 9 is passed
  * over; the tracker is as it stood */
 static void arrived(uint64_t offset, uint16_t channel, int64_t number, uint32_t answer, size_t before)
 {
-    if (answer == ORIZHGUM_LATE || answer == ORIZHGUM_DUPLICATE) {
-        printf("%" PRIu64 " channel %u number %" PRId64 " %s\n", offset, (unsigned)channel, number,
-            answer == ORIZHGUM_LATE ? "late" : "duplicate");
+    const char *told = word(answer);
+
+    if (told != NULL) {
+        printf("%" PRIu64 " channel %u number %" PRId64 " %s\n", offset, (unsigned)channel, number, told);
     } else if (answer != ORIZHGUM_OK) {
         printf("%" PRIu64 " channel %u number %" PRId64 " refused %" PRIu32 "\n", offset, (unsigned)channel, number, answer);
     }
@@ -204,11 +231,12 @@ static int receive(uint64_t offset, uint32_t kind, const uint8_t *body, size_t l
     return 0;
 }
 
+/* where highest is one below from, no number came or was announced */
 static void print_channels(void)
 {
     for (size_t c = 0; c < tracker.count; c++) {
-        printf("channel %u: highest %" PRIu64 "%s, missing", (unsigned)tracker.numbers[c], tracker.highest[c],
-            tracker.ended[c] ? ", ended" : "");
+        printf("channel %u: from %" PRIu64 ", highest %" PRIu64 "%s, missing", (unsigned)tracker.numbers[c], tracker.from[c],
+            tracker.highest[c], tracker.ended[c] ? ", ended" : "");
         for (size_t r = ORIZHGUM_RUNS * c; r < ORIZHGUM_RUNS * c + tracker.counts[c]; r++) {
             printf(" %" PRIu64 "-%" PRIu64, tracker.first[r], tracker.last[r]);
         }
@@ -311,10 +339,27 @@ static size_t cut_size(const char *word)
     return *word == '\0' && bytes <= CUT_LIMIT ? bytes : 0;
 }
 
-int main(int argc, char **argv)
+#define LENGTH(list) (sizeof(list) / sizeof *(list))
+
+/* the channels, and of each the first number that the receiver is to have; on a board that is there from the start of the day these
+ * are 1. It joins 2011 at number 4, and wants 2012 from number 3 on. noon.bin begins there on 2011, but behind 3 and 4 on 2012: these it
+ * misses, and asks for. Returns 0 when the tracker is set up, else 1 */
+static int set_up(void)
 {
     static const uint16_t channels[] = {2011, 2012};
-    struct orizhgum_start_answer start = orizhgum_set_up(channels, sizeof channels / sizeof *channels);
+    static const int64_t from[] = {4, 3};
+    struct orizhgum_start_answer start = orizhgum_set_up(channels, LENGTH(channels), from, LENGTH(from));
+
+    if (start.answer != ORIZHGUM_OK) {
+        fprintf(stderr, "set-up refused %" PRIu32 "\n", start.answer);
+        return 1;
+    }
+    tracker = start.tracker;
+    return 0;
+}
+
+int main(int argc, char **argv)
+{
     bool exact = argc == 2 && strcmp(argv[1], "exact") == 0;
     size_t most = argc == 2 && !exact ? cut_size(argv[1]) : CUT_LIMIT;
     int failed;
@@ -323,12 +368,7 @@ int main(int argc, char **argv)
         fprintf(stderr, "usage: receiver [BYTES | exact]; a cut has at most BYTES, 1 to %d, or what is missing\n", CUT_LIMIT);
         return 2;
     }
-    if (start.answer != ORIZHGUM_OK) {
-        fprintf(stderr, "set-up refused %" PRIu32 "\n", start.answer);
-        return 1;
-    }
-    tracker = start.tracker;
-    failed = receive_all(most, exact);
+    failed = set_up() || receive_all(most, exact);
     if (!failed) {
         print_channels();
     }

@@ -19,7 +19,8 @@
  * The host's part, which no proof covers:
  * - a pointer with a length refers to as many elements as the length says; NULL goes with length 0 only; a pointer to an
  *   array of a tracker refers to as many as the struct has;
- * - an output, a stream's buffer and a lent int64_t are the host's to write, and overlap none of the inputs of the same call. */
+ * - an output, a stream's buffer and the int64_t that is lent for a price are the host's to write, and overlap none of the inputs
+ *   of the same call. */
 #ifndef ORIZHGUM_H
 #define ORIZHGUM_H
 
@@ -33,9 +34,9 @@ extern "C" {
 /* ---- the version of this header and of the archive that goes with it */
 
 #define ORIZHGUM_VERSION_MAJOR 0
-#define ORIZHGUM_VERSION_MINOR 5
-#define ORIZHGUM_VERSION_PATCH 1
-#define ORIZHGUM_VERSION "0.5.1"
+#define ORIZHGUM_VERSION_MINOR 6
+#define ORIZHGUM_VERSION_PATCH 0
+#define ORIZHGUM_VERSION "0.6.0"
 
 /* ---- sizes in bytes, and decimals */
 
@@ -85,9 +86,9 @@ enum {
     ORIZHGUM_OUT_OF_RANGE = 5,     /* a field out of range */
     ORIZHGUM_OUTPUT_SHORT = 6,     /* the output is too short */
     ORIZHGUM_NO_SUCH_CHANNEL = 7,  /* the channel is not in the tracker */
-    ORIZHGUM_NUMBER_TOO_LOW = 8,   /* a tick number below 1, or a last number below 0 */
-    ORIZHGUM_TABLE_FULL = 9,       /* the next state would need a 33rd run */
-    ORIZHGUM_MALFORMED = 10,       /* a list of channels, a tracker or a stream that breaks the rules */
+    ORIZHGUM_NUMBER_TOO_LOW = 8,   /* a tick number below 1, or a last number below 0, whatever the channel's first number */
+    ORIZHGUM_TABLE_FULL = 9,       /* the next state would need a 33rd run; never for a tick before start */
+    ORIZHGUM_MALFORMED = 10,       /* a set-up's lists, a tracker or a stream that breaks the rules */
     ORIZHGUM_UNKNOWN = 100,        /* a type that is not listed */
     ORIZHGUM_NO_SUCH_ENTRY = 101,  /* a position not below the count */
     ORIZHGUM_NO_PRICE = 102,       /* an entry that says no price; the lent number is as it stood */
@@ -95,7 +96,8 @@ enum {
     ORIZHGUM_DUPLICATE = 104,      /* a tick that had come before */
     ORIZHGUM_NOTHING_MISSING = 105, /* a request for a channel without a missing number */
     ORIZHGUM_MORE = 106,           /* the whole cut is taken, and no frame is whole yet; missing says how many bytes */
-    ORIZHGUM_END = 107             /* the stream was told to have ended, and nothing is left over */
+    ORIZHGUM_END = 107,            /* the stream was told to have ended, and nothing is left over */
+    ORIZHGUM_BEFORE_START = 108    /* a tick below its channel's first number; nothing changes */
 };
 
 /* ---- types */
@@ -446,16 +448,20 @@ uint32_t orizhgum_entry_price(uint32_t kind, const uint8_t *body, size_t length,
 
 struct orizhgum_quantity_answer orizhgum_quantity(uint32_t kind, const uint8_t *body, size_t length, uint32_t i, uint32_t j);
 
-/* ---- the tracker: which numbers of up to eight channels never came. An arrival makes it the next one, in place; a refusal
- * leaves it as it stood. A host that changes it by hand gets 10, or a tracker of its own making, and never anything undefined. */
+/* ---- the tracker: which numbers of up to eight channels never came, on each from its first number on. An arrival makes it the
+ * next one, in place; a refusal leaves it as it stood. A host that changes it by hand gets 10, or a tracker of its own making, and
+ * never anything undefined. */
 
 #define ORIZHGUM_CHANNELS 8
 #define ORIZHGUM_RUNS 32
 
-/* an ended mark is 0 or 1; run r of the channel at place c stands at place ORIZHGUM_RUNS * c + r of first and last */
+/* from has each channel's first number. A channel's highest is never lower than one below its first number, and no run of it
+ * begins below that number. An ended mark is 0 or 1; run r of the channel at place c stands at place ORIZHGUM_RUNS * c + r of first
+ * and last. Places that no channel or run uses are 0 */
 struct orizhgum_tracker {
     size_t count;
     uint16_t numbers[ORIZHGUM_CHANNELS];
+    uint64_t from[ORIZHGUM_CHANNELS];
     uint64_t highest[ORIZHGUM_CHANNELS];
     uint8_t ended[ORIZHGUM_CHANNELS];
     size_t counts[ORIZHGUM_CHANNELS];
@@ -468,29 +474,35 @@ struct orizhgum_start_answer {
     struct orizhgum_tracker tracker;
 };
 
-/* 1 to 8 channel numbers, strictly ascending */
-struct orizhgum_start_answer orizhgum_set_up(const uint16_t *channels, size_t length);
+/* 1 to 8 channel numbers, strictly ascending, and as many first numbers, from[i] that of channels[i], each at least 1: 1 on a board
+ * that is there from the start of the day; on one that joins at noon the first number that it is to have, as one above the last
+ * number that it heard of. A channel's highest begins one below its first number, and no number below its first number is ever
+ * missing. The largest first number, INT64_MAX, lets exactly one number come. Refused by 10: no channels, more than 8, channels that
+ * don't strictly ascend; lists of different lengths; a first number below 1. The tracker is all zeros then, which any later call
+ * refuses by 10 */
+struct orizhgum_start_answer orizhgum_set_up(const uint16_t *channels, size_t length, const int64_t *from, size_t from_length);
 
 /* what the archive has: the calls below over the arrays of a tracker, none of which overlaps another */
-uint32_t orizhgum_tick_in(size_t count, const uint16_t *numbers, uint64_t *highest, uint8_t *ended, size_t *counts,
-    uint64_t *first, uint64_t *last, uint16_t channel, int64_t number);
+uint32_t orizhgum_tick_in(size_t count, const uint16_t *numbers, const uint64_t *from, uint64_t *highest, uint8_t *ended,
+    size_t *counts, uint64_t *first, uint64_t *last, uint16_t channel, int64_t number);
 
-uint32_t orizhgum_heard_in(size_t count, const uint16_t *numbers, uint64_t *highest, uint8_t *ended, size_t *counts,
-    uint64_t *first, uint64_t *last, uint16_t channel, int64_t last_number, uint8_t end);
+uint32_t orizhgum_heard_in(size_t count, const uint16_t *numbers, const uint64_t *from, uint64_t *highest, uint8_t *ended,
+    size_t *counts, uint64_t *first, uint64_t *last, uint16_t channel, int64_t last_number, uint8_t end);
 
-/* 0 where the number is new, ORIZHGUM_LATE where it was missing, ORIZHGUM_DUPLICATE where it had come */
+/* 0 where the number is new, ORIZHGUM_LATE where it was missing, ORIZHGUM_DUPLICATE where it had come, ORIZHGUM_BEFORE_START where
+ * it is below the channel's first number; the last two change nothing */
 static inline uint32_t orizhgum_tick(struct orizhgum_tracker *tracker, uint16_t channel, int64_t number)
 {
-    return orizhgum_tick_in(tracker->count, tracker->numbers, tracker->highest, tracker->ended, tracker->counts,
-        tracker->first, tracker->last, channel, number);
+    return orizhgum_tick_in(tracker->count, tracker->numbers, tracker->from, tracker->highest, tracker->ended,
+        tracker->counts, tracker->first, tracker->last, channel, number);
 }
 
 /* a channel heartbeat (390095) is heard, with the channel's last number; end 0 is no, anything else yes; always 0 where it is
- * not refused */
+ * not refused. A last number below the channel's first number changes nothing but the ended mark, which an end sets */
 static inline uint32_t orizhgum_heard(struct orizhgum_tracker *tracker, uint16_t channel, int64_t last_number, uint8_t end)
 {
-    return orizhgum_heard_in(tracker->count, tracker->numbers, tracker->highest, tracker->ended, tracker->counts,
-        tracker->first, tracker->last, channel, last_number, end);
+    return orizhgum_heard_in(tracker->count, tracker->numbers, tracker->from, tracker->highest, tracker->ended,
+        tracker->counts, tracker->first, tracker->last, channel, last_number, end);
 }
 
 /* ---- the writer: a frame to the start of out, with texts and groups as bytes in wire layout: as many bytes of texts as the
@@ -534,16 +546,17 @@ struct orizhgum_write_answer orizhgum_write_heartbeat(const uint8_t *texts, size
     const uint8_t *groups, size_t groups_length, uint8_t *out, size_t out_length);
 
 /* ---- the request: a frame of ORIZHGUM_RESEND, ORIZHGUM_REQUEST bytes, to the start of out, that asks for the first run of a
- * channel, or for its first 200 numbers; with any answer but 0 nothing is written, and out is as it stood */
-struct orizhgum_write_answer orizhgum_request_in(size_t count, const uint16_t *numbers, const uint64_t *highest,
-    const uint8_t *ended, const size_t *counts, const uint64_t *first, const uint64_t *last, uint16_t channel, uint8_t *out,
-    size_t out_length);
+ * channel, or for its first 200 numbers; with any answer but 0 nothing is written, and out is as it stood. No number below the
+ * channel's first number is asked for */
+struct orizhgum_write_answer orizhgum_request_in(size_t count, const uint16_t *numbers, const uint64_t *from,
+    const uint64_t *highest, const uint8_t *ended, const size_t *counts, const uint64_t *first, const uint64_t *last,
+    uint16_t channel, uint8_t *out, size_t out_length);
 
 static inline struct orizhgum_write_answer orizhgum_request(const struct orizhgum_tracker *tracker, uint16_t channel,
     uint8_t *out, size_t out_length)
 {
-    return orizhgum_request_in(tracker->count, tracker->numbers, tracker->highest, tracker->ended, tracker->counts,
-        tracker->first, tracker->last, channel, out, out_length);
+    return orizhgum_request_in(tracker->count, tracker->numbers, tracker->from, tracker->highest, tracker->ended,
+        tracker->counts, tracker->first, tracker->last, channel, out, out_length);
 }
 
 #ifdef __cplusplus

@@ -3,6 +3,7 @@
 It shares nothing with the modules that build the files and their text.
 """
 
+import re
 import struct
 
 PRICE = (-9_999_999_999_999, 9_999_999_999_999)
@@ -144,3 +145,46 @@ def check_showing(data, text):
         assert line.endswith(f": refused {refusal}") == (refusal != 0), line
         assert (": refused " in line) == (refusal != 0), line
         assert (" unknown: type " in line) == (kind not in LAYOUTS), line
+
+
+def came(frames, channel):
+    """A channel's numbers, its last numbers, and whether it says end."""
+    numbers, lasts, ends = set(), set(), set()
+    for _, kind, body in frames:
+        if kind not in (300191, 300192, 390095):
+            continue
+        at, number, *others = struct.unpack_from(LAYOUTS[kind][0], body)
+        if at == channel and kind == 390095:
+            lasts.add(number)
+            ends.update(others)
+        elif at == channel:
+            numbers.add(number)
+    return numbers, lasts, 1 in ends
+
+
+def check_channel(frames, line):
+    """A channel's line, by all that came, in whatever order."""
+    channel, first, highest, ended, runs = re.fullmatch(
+        r"channel (\d+): from (\d+), highest (\d+)(, ended)?, missing (.+)",
+        line).groups()
+    numbers, lasts, end = came(frames, int(channel))
+    start = int(first)
+    known = max(numbers | lasts | {start - 1})
+    assert known == int(highest) and end == (ended is not None), line
+    told = []
+    for a, b in re.findall(r"(\d+)-(\d+)", runs):
+        told += range(int(a), int(b) + 1)
+    missing = sorted(set(range(start, known + 1)) - numbers)
+    assert told == missing and (runs == "nothing") == (not missing), line
+
+
+def check_receiving(data, text):
+    """Offsets and the end are those of the walk, and nothing is refused."""
+    *frames, (offset, word, count) = walk(data)
+    assert not any(judge(kind, body) for _, kind, body in frames)
+    lines = head_lines(text)
+    end = lines.index(f"{offset} end {count}")
+    told = [int(line.split()[0]) for line in lines[:end]]
+    assert told == sorted(told) and {*told} <= {each[0] for each in frames}
+    for line in lines[end + 1:]:
+        check_channel(frames, line)

@@ -18,13 +18,23 @@ import receiving
 import showing
 
 
+def received(capture):
+    """What the example prints, and how it is checked."""
+    text = receiving.text(cases.bytes_of(capture))
+    return text, check.check_receiving
+
+
 def made():
     """Every generated file's name, bytes, and which text it is checked by."""
     capture = opening.file()
     yield "opening.bin", cases.bytes_of(capture), {
         "opening.list": (cases.listing(capture), check.check_listing),
         "opening.show": (cases.showing(capture), check.check_showing),
+        "opening.receiver": received(capture),
     }
+    capture = opening.noon()
+    yield "noon.bin", cases.bytes_of(capture), {
+        "noon.receiver": received(capture)}
     for file in listing.files():
         yield f"list/{file.name}.bin", cases.bytes_of(file), {
             f"list/{file.name}.out": (cases.listing(file),
@@ -55,8 +65,6 @@ def main():
     for file, name in [(opening.file(), "opening.again")] + [
             (each, f"show/{each.name}.again") for each in showing.files()]:
         write(folder, name, cases.again(file))
-    write(folder, "opening.receiver",
-          receiving.text(cases.bytes_of(opening.file())).encode("ascii"))
 
 
 main()

@@ -62,6 +62,12 @@ def first_orders():
         order(2012, 4, "2", 250900, 20000, at(1, 370), **other),
         order(2012, 3, "1", 251500, 20000, at(1, 130), **other),
         order(2012, 4, "2", 250900, 20000, at(1, 370), **other),
+    ]
+
+
+def later_orders():
+    """The first orders for a board that joins at noon."""
+    return [
         order(2011, 4, "2", 123400, 30000, at(2, 0)),
         order(2011, 5, "2", 124000, 15000, at(2, 70)),
         heard(2011, 5),
@@ -143,4 +149,9 @@ def opened():
 
 def file():
     """The capture."""
-    return File("opening", before() + first_orders() + auction() + opened())
+    return File("opening", before() + first_orders() + noon().cases)
+
+
+def noon():
+    """The rest of it, which is all that a board gets that joins then."""
+    return File("noon", later_orders() + auction() + opened())

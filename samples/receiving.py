@@ -6,7 +6,8 @@ with the numbers that came kept as sets.
 
 import struct
 
-CHANNELS = (2011, 2012)
+# Each channel's first number.
+FIRST_NUMBERS = {2011: 4, 2012: 3}
 
 ENTRY_PRICE_DECIMALS = 6
 SIZE_DECIMALS = 2
@@ -37,15 +38,16 @@ def levels(body):
 class Channel:
     """The numbers of a channel that came, and the highest known."""
 
-    def __init__(self):
+    def __init__(self, first):
+        self.first = first
         self.came = set()
-        self.highest = 0
+        self.highest = first - 1
         self.ended = False
 
     def runs(self):
         """The runs of numbers that never came."""
         found = []
-        for number in range(1, self.highest + 1):
+        for number in range(self.first, self.highest + 1):
             if number in self.came:
                 continue
             if found and found[-1][1] == number - 1:
@@ -80,6 +82,9 @@ def arrivals(kind, body):
 def arrived(state, offset, channel, number, end, tick):
     """The lines of an arrival."""
     record = state[channel]
+    if tick and number < record.first:
+        yield f"{offset} channel {channel} number {number} before start"
+        return
     before = len(record.runs())
     if tick and number <= record.highest:
         answer = "duplicate" if number in record.came else "late"
@@ -95,7 +100,8 @@ def arrived(state, offset, channel, number, end, tick):
 
 def lines(data):
     """All lines, of a capture without a refused frame."""
-    state = {channel: Channel() for channel in CHANNELS}
+    state = {channel: Channel(first)
+             for channel, first in FIRST_NUMBERS.items()}
     offset = frames = 0
     while offset < len(data):
         kind, length = struct.unpack_from(">II", data, offset)
@@ -114,8 +120,8 @@ def lines(data):
     for channel, record in state.items():
         ended = ", ended" if record.ended else ""
         runs = " ".join(f"{a}-{b}" for a, b in record.runs()) or "nothing"
-        yield (f"channel {channel}: highest {record.highest}{ended}, "
-               f"missing {runs}")
+        yield (f"channel {channel}: from {record.first}, "
+               f"highest {record.highest}{ended}, missing {runs}")
 
 
 def text(data):

@@ -5,14 +5,15 @@
 
 mod streams;
 
-use crate::inputs::{Asked, Call, Input, Inputs, Way};
+use crate::inputs::{Asked, Call, Input, Inputs, Lists, Unfit, Way};
 use crate::layout::{layout, SNAPSHOT};
 use crate::receiver::{
     ArrivalAnswer, Cursor, Draft, Entry, Found, FrameAnswer, PriceAnswer, ReadAnswer, Receiver,
     RequestAnswer, Says, StepAnswer, Tracker, Verdict, WriteAnswer,
 };
 use crate::second::rules::Rules;
-use crate::table::{self, entry_row, type_row, Column, Part, Table};
+use crate::table::{self, entry_row, start_row, type_row, Column, Part, Table};
+use std::cmp::Ordering;
 use std::fmt;
 
 /// The byte that a request's output holds before.
@@ -196,9 +197,9 @@ impl Play<'_> {
                 };
                 self.write(&draft, *pushed, output)
             }
-            Input::SetUp { channels } => self.set_up(channels).map(|_| ()),
-            Input::Arrivals { channels, calls } => {
-                let tracker = self.set_up(channels)?;
+            Input::SetUp { way, lists } => self.set_up(*way, lists).map(|_| ()),
+            Input::Arrivals { lists, calls } => {
+                let tracker = self.set_up(None, lists)?;
                 self.calls(None, tracker, calls)
             }
             Input::Tracker {
@@ -351,15 +352,18 @@ impl Play<'_> {
     }
 
     /// Sets up a tracker.
-    fn set_up(&mut self, channels: &[u16]) -> Result<Tracker, Told> {
-        let call = || format!("set up {channels:?}");
+    fn set_up(&mut self, way: Option<Unfit>, lists: &Lists) -> Result<Tracker, Told> {
+        let (channels, from) = (&lists.channels, &lists.from);
         let answer = same(
-            call,
-            self.first.set_up(channels),
-            self.second.set_up(channels),
+            || format!("set up {lists}"),
+            self.first.set_up(channels, from),
+            self.second.set_up(channels, from),
         )?;
         let column = answer.refused.map_or(Column::Accepted, Column::Refused);
         self.table.meet(Part::Tracker, table::SET_UP, column);
+        if let (Some(way), Column::Refused(10)) = (way, column) {
+            self.table.meet(Part::Unfit, way as usize, column);
+        }
         Ok(answer.tracker)
     }
 
@@ -371,6 +375,7 @@ impl Play<'_> {
         calls: &[Call],
     ) -> Result<(), Told> {
         for call in calls {
+            let before = tracker;
             let (row, column) = match *call {
                 Call::Tick { channel, number } => {
                     let first = self.first.tick(&tracker, channel, number);
@@ -390,6 +395,9 @@ impl Play<'_> {
                 }
             };
             self.table.meet(Part::Tracker, row, column);
+            if let Some((row, column)) = at_a_start(&before, call, column) {
+                self.table.meet(Part::Start, row, column);
+            }
             if let (Some(way), Column::Refused(10)) = (way, column) {
                 self.table.meet(Part::Malformed, way as usize, called(call));
             }
@@ -423,6 +431,30 @@ fn called(call: &Call) -> Column {
     }
 }
 
+/// The row and column of an accepted arrival at its channel's first number or
+/// below it.
+fn at_a_start(tracker: &Tracker, call: &Call, verdict: Column) -> Option<(usize, Column)> {
+    let (channel, number) = match *call {
+        Call::Tick { channel, number } => (channel, number),
+        Call::Heartbeat { channel, last, .. } => (channel, last),
+        Call::Request { .. } => return None,
+    };
+    if let Column::Refused(_) = verdict {
+        return None;
+    }
+    let used = tracker.numbers.get(..tracker.count)?;
+    let place = used.iter().position(|each| *each == channel)?;
+    let beside = number.cmp(&i64::try_from(tracker.from[place]).ok()?);
+    let column = match (call, beside) {
+        (_, Ordering::Greater) => return None,
+        (Call::Heartbeat { .. }, Ordering::Equal) => Column::LastAt,
+        (Call::Heartbeat { end: 0, .. }, _) => Column::LastBelow,
+        (Call::Heartbeat { .. }, _) => Column::EndBelow,
+        _ => verdict,
+    };
+    Some((start_row(tracker, place), column))
+}
+
 /// The verdict of an arrival; the tracker goes on to the next one.
 fn arrival(
     call: &Call,
@@ -437,6 +469,7 @@ fn arrival(
         Verdict::New => Column::New,
         Verdict::Late => Column::Late,
         Verdict::Duplicate => Column::Duplicate,
+        Verdict::BeforeStart => Column::BeforeStart,
         Verdict::Heard => Column::Heard,
     })
 }

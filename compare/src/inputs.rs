@@ -7,12 +7,14 @@ mod bodies;
 mod damage;
 mod dice;
 mod drafts;
+mod lists;
 mod pushes;
 mod streams;
 mod trackers;
 
 pub use bodies::frame_of;
 pub use dice::Dice;
+pub use lists::{Lists, Unfit};
 pub use pushes::{pushes, End, Push};
 pub use streams::Unled;
 pub use trackers::Way;
@@ -88,13 +90,10 @@ pub enum Input {
         groups: Vec<u8>,
         output: Vec<u8>,
     },
-    /// A list of channels.
-    SetUp { channels: Vec<u16> },
+    /// Lists for a set-up, refused in one way or good.
+    SetUp { way: Option<Unfit>, lists: Lists },
     /// A set-up, and calls one after the other.
-    Arrivals {
-        channels: Vec<u16>,
-        calls: Vec<Call>,
-    },
+    Arrivals { lists: Lists, calls: Vec<Call> },
     /// A tracker, malformed in one way or good, and
     /// calls one after the other.
     Tracker {
@@ -146,7 +145,7 @@ impl Inputs {
             19..=20 => drafts::valid(&self.rules, &mut dice, listed(turn)),
             slot @ 21..=23 => drafts::damaged(&self.rules, &mut dice, turn * 3 + slot - 21),
             slot @ 24..=26 => self.pushed_draft(&mut dice, turn * 3 + slot - 24),
-            27 => trackers::set_up(&mut dice),
+            27 => lists::set_up(&mut dice, turn),
             28..=29 => trackers::arrivals(&mut dice, turn),
             30 => trackers::malformed(&mut dice, turn),
             31 => trackers::good(&mut dice),
@@ -372,9 +371,9 @@ impl fmt::Display for Input {
                 )?;
                 write!(out, "groups {}\noutput {}", Hex(groups), Hex(output))
             }
-            Input::SetUp { channels } => write!(out, "set up {channels:?}"),
-            Input::Arrivals { channels, calls } => {
-                write!(out, "set up {channels:?}\ncalls {calls:?}")
+            Input::SetUp { lists, .. } => write!(out, "set up {lists}"),
+            Input::Arrivals { lists, calls } => {
+                write!(out, "set up {lists}\ncalls {calls:?}")
             }
             Input::Tracker { tracker, calls, .. } => {
                 write!(out, "{tracker:?}\ncalls {calls:?}")

@@ -178,6 +178,8 @@ pub struct Tracker {
     pub count: usize,
     /// The channel numbers, strictly ascending.
     pub numbers: [u16; CHANNELS],
+    /// Each channel's first number.
+    pub from: [u64; CHANNELS],
     /// Each channel's highest number.
     pub highest: [u64; CHANNELS],
     /// Each channel's ended mark, 0 or 1.
@@ -195,6 +197,7 @@ impl Tracker {
     pub const ZERO: Tracker = Tracker {
         count: 0,
         numbers: [0; CHANNELS],
+        from: [0; CHANNELS],
         highest: [0; CHANNELS],
         ended: [0; CHANNELS],
         counts: [0; CHANNELS],
@@ -208,8 +211,8 @@ impl fmt::Debug for Tracker {
     fn fmt(&self, out: &mut fmt::Formatter<'_>) -> fmt::Result {
         write!(
             out,
-            "Tracker {{ count {}, numbers {:?}, highest {:?}, ended {:?}, counts {:?}, runs",
-            self.count, self.numbers, self.highest, self.ended, self.counts
+            "Tracker {{ count {}, numbers {:?}, from {:?}, highest {:?}, ended {:?}, counts {:?}, runs",
+            self.count, self.numbers, self.from, self.highest, self.ended, self.counts
         )?;
         for place in 0..PLACES {
             let (first, last) = (self.first[place], self.last[place]);
@@ -235,6 +238,8 @@ pub enum Verdict {
     New,
     Late,
     Duplicate,
+    /// A tick below its channel's first number.
+    BeforeStart,
     Heard,
 }
 
@@ -362,10 +367,10 @@ pub trait Receiver {
     /// Writes a frame: 5 for the type, then 4, 5, 2, 6.
     fn write(&self, draft: &Draft, output: &mut [u8]) -> WriteAnswer;
 
-    /// Sets up a tracker: 10.
-    fn set_up(&self, channels: &[u16]) -> SetUpAnswer;
+    /// Sets up a tracker with channels, and a first number for each: 10.
+    fn set_up(&self, channels: &[u16], from: &[i64]) -> SetUpAnswer;
 
-    /// A tick arrives: 10, 7, 8, 9.
+    /// A tick arrives: 10, 7, 8, "before start", 9.
     fn tick(&self, tracker: &Tracker, channel: u16, number: i64) -> ArrivalAnswer;
 
     /// A channel heartbeat arrives: 10, 7, 8, 9. End 0 is no, all else yes.

@@ -2,9 +2,9 @@
 
 #![forbid(unsafe_code)]
 
-use crate::inputs::{pushes, End, Push, Unled, Way};
+use crate::inputs::{pushes, End, Push, Unfit, Unled, Way};
 use crate::layout::{layout, LISTED};
-use crate::receiver::Stream;
+use crate::receiver::{Stream, Tracker, RUNS};
 use crate::second::rules::Rules;
 use std::fmt;
 
@@ -26,7 +26,11 @@ pub enum Column {
     New,
     Late,
     Duplicate,
+    BeforeStart,
     Heard,
+    LastBelow,
+    EndBelow,
+    LastAt,
     Written,
     NothingMissing,
     Tick,
@@ -64,7 +68,11 @@ impl Column {
             Column::New => "new",
             Column::Late => "late",
             Column::Duplicate => "duplicate",
+            Column::BeforeStart => "before start",
             Column::Heard => "heard",
+            Column::LastBelow => "last below",
+            Column::EndBelow => "end below",
+            Column::LastAt => "last at it",
             Column::Written => "written",
             Column::NothingMissing => "nothing",
             Column::Tick => "tick",
@@ -203,6 +211,8 @@ pub enum Part {
     Positions,
     Entries,
     Tracker,
+    Unfit,
+    Start,
     Malformed,
     Stream,
     Unled,
@@ -211,7 +221,7 @@ pub enum Part {
 
 /// The table.
 pub struct Table {
-    sections: [Section; 9],
+    sections: [Section; 11],
     pushes: Vec<(usize, End)>,
 }
 
@@ -231,6 +241,8 @@ impl Table {
                 positions(),
                 entries(),
                 tracker(),
+                unfit(),
+                start(),
                 malformed(),
                 stream(),
                 unled(),
@@ -424,6 +436,7 @@ fn tracker() -> Section {
         Column::New,
         Column::Late,
         Column::Duplicate,
+        Column::BeforeStart,
         Column::Heard,
         Column::Written,
         Column::NothingMissing,
@@ -438,7 +451,8 @@ fn tracker() -> Section {
             (_, Refused(10)) => None,
             (SET_UP, Column::Accepted) => None,
             (SET_UP, _) => Some("a set-up is accepted or refused by 10"),
-            (TICK, Column::New | Column::Late | Column::Duplicate) => None,
+            (TICK, Column::New | Column::Late) => None,
+            (TICK, Column::Duplicate | Column::BeforeStart) => None,
             (HEARTBEAT, Column::Heard) => None,
             (TICK | HEARTBEAT, Refused(7..=9)) => None,
             (REQUEST, Column::Written | Column::NothingMissing) => None,
@@ -446,6 +460,59 @@ fn tracker() -> Section {
             _ => Some("not an answer to this call"),
         }
     })
+}
+
+fn unfit() -> Section {
+    Section::new(
+        "lists of a set-up, refused by 10",
+        Unfit::ALL
+            .iter()
+            .map(|way| way.name().to_string())
+            .collect(),
+        &[Refused(10)],
+        |_, _| None,
+    )
+}
+
+/// The row of a channel by its first number, and by its table.
+pub fn start_row(tracker: &Tracker, channel: usize) -> usize {
+    const LARGEST: u64 = i64::MAX as u64;
+    match (tracker.from[channel], tracker.counts[channel]) {
+        (1, _) => 0,
+        (LARGEST, _) => 3,
+        (_, RUNS) => 2,
+        _ => 1,
+    }
+}
+
+/// Ticks below a channel's first number and at it, last numbers below it
+/// without and with an end, and last numbers at it.
+fn start() -> Section {
+    let rows = named(&[
+        "first number 1",
+        "a later one",
+        "a later one, 32 runs",
+        "the largest one",
+    ]);
+    let columns = [
+        Column::BeforeStart,
+        Column::New,
+        Column::Late,
+        Column::Duplicate,
+        Column::LastBelow,
+        Column::EndBelow,
+        Column::LastAt,
+    ];
+    Section::new(
+        "arrivals at a first number and below it",
+        rows,
+        &columns,
+        |row, column| match (row, column) {
+            (0, Column::BeforeStart) => Some("a tick below 1 is refused by 8"),
+            (2, Column::New) => Some("with a run the highest is not below the first number"),
+            _ => None,
+        },
+    )
 }
 
 fn malformed() -> Section {

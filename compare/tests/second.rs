@@ -1,6 +1,6 @@
 //! The second program by itself, with the rules' cases; the samples; the
 //! comparison of the product, and of broken receivers, with the second
-//! program; the C header.
+//! program; short histories by both; the C header.
 
 #[path = "second/agreed.rs"]
 mod agreed;
@@ -14,8 +14,14 @@ mod entries;
 mod frames;
 #[path = "second/header.rs"]
 mod header;
+#[path = "second/histories.rs"]
+mod histories;
+#[path = "second/malformed.rs"]
+mod malformed;
 #[path = "second/samples.rs"]
 mod samples;
+#[path = "second/starts.rs"]
+mod starts;
 #[path = "second/streams.rs"]
 mod streams;
 #[path = "second/text.rs"]

@@ -54,8 +54,10 @@ pub fn step(at: Cursor, kind: u32, body: &[u8]) -> StepAnswer {
     next(at, kind, body, &mut 0)
 }
 
-pub fn set_up(channels: &[u16]) -> Tracker {
-    unsafe { orizhgum_set_up(channels.as_ptr(), channels.len()) }.tracker
+/// A tracker of these channels, each with its first number.
+pub fn set_up(channels: &[u16], from: &[i64]) -> Tracker {
+    let (count, firsts) = (channels.len(), from.len());
+    unsafe { orizhgum_set_up(channels.as_ptr(), count, from.as_ptr(), firsts) }.tracker
 }
 
 /// A call over the arrays of a tracker.
@@ -65,6 +67,7 @@ macro_rules! lend {
             $call(
                 $t.count,
                 $t.numbers.as_ptr(),
+                $t.from.as_ptr(),
                 $t.highest.$lends(),
                 $t.ended.$lends(),
                 $t.counts.$lends(),

@@ -3,7 +3,7 @@
 use crate::calls::{self, Answer, ChannelHeartbeat, Cursor, FrameAnswer, Index, Order, Snapshot};
 use crate::calls::{StepAnswer, Trade, CHANNEL_HEARTBEAT, INDEX, ORDER, SNAPSHOT, TRADE};
 use crate::race::{Bench, Row};
-use crate::ticks::{Tracks, CHANNELS};
+use crate::ticks::{Tracks, CHANNELS, MORNING};
 use crate::{entries, frames, records, tracker};
 use std::fmt::Debug;
 use std::hint::black_box;
@@ -173,7 +173,7 @@ fn agree(start: &calls::Tracker, capture: &[u8]) -> usize {
 }
 
 pub fn run(bench: &Bench, capture: &[u8]) {
-    let start = calls::set_up(&CHANNELS);
+    let start = calls::set_up(&CHANNELS, &MORNING);
     let rust = tracker::Tracker::from(&start);
     let parts = agree(&start, capture);
     bench.race(

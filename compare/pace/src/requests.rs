@@ -1,12 +1,12 @@
 //! The request for the first of a channel's two runs.
 use crate::calls;
 use crate::race::{same, Bench, Row};
-use crate::ticks::CHANNELS;
+use crate::ticks::{CHANNELS, MORNING};
 use crate::tracker::Tracker;
 use std::hint::black_box;
 
 pub fn run(bench: &Bench) {
-    let mut ours = calls::set_up(&CHANNELS);
+    let mut ours = calls::set_up(&CHANNELS, &MORNING);
     for n in [1_000, 3_000] {
         calls::tick(&mut ours, 2013, n);
     }

@@ -1,7 +1,7 @@
 //! Arrivals on tables of 31 and 32 runs on all eight channels, each kind with heartbeats among its ticks.
 use crate::calls::{set_up, Tracker, DUPLICATE, LATE};
 use crate::race::Bench;
-use crate::ticks::{answers, race_arrivals, Arrival, CHANNELS};
+use crate::ticks::{answers, race_arrivals, Arrival, CHANNELS, MORNING};
 use Arrival::{Heartbeat, Tick};
 
 /// A kind of arrivals: those at one run of a channel, on a table of so many.
@@ -18,7 +18,7 @@ fn run_at(j: usize) -> (i64, i64) {
 
 /// So many runs on every channel.
 fn table(runs: usize) -> Tracker {
-    let mut t = set_up(&CHANNELS);
+    let mut t = set_up(&CHANNELS, &MORNING);
     t.highest = [HIGHEST as u64; 8];
     t.counts = [runs; 8];
     for (at, (first, last)) in t.first.iter_mut().zip(&mut t.last).enumerate() {

@@ -1,5 +1,5 @@
 //! Rust's tracker: an array of structs changed through `&mut`, with rule 10 judged on every call.
-use crate::calls::{self, WriteAnswer, DUPLICATE, LATE, NOTHING_MISSING, RESEND};
+use crate::calls::{self, WriteAnswer, BEFORE_START, DUPLICATE, LATE, NOTHING_MISSING, RESEND};
 use crate::writing::{refused, sealed};
 
 #[derive(Clone, Copy, Debug, Default, PartialEq, Eq)]
@@ -11,6 +11,7 @@ struct Run {
 #[derive(Clone, Copy, Debug, Default, PartialEq, Eq)]
 struct Channel {
     number: u16,
+    from: u64,
     highest: u64,
     ended: bool,
     count: usize,
@@ -23,27 +24,43 @@ pub struct Tracker {
     channels: [Channel; 8],
 }
 
+/// The highest number that there can be.
+const HIGHEST: u64 = i64::MAX as u64;
+
 impl Channel {
     /// Rule 10 of one channel.
     fn sound(&self) -> bool {
-        if self.count > 32 || self.highest > i64::MAX as u64 {
+        if self.count > 32 || self.from < 1 || self.from > HIGHEST {
             return false;
         }
-        let mut low = 1;
+        if self.highest < self.from - 1 || self.highest > HIGHEST {
+            return false;
+        }
+        let mut low = self.from;
         for r in &self.runs[..self.count] {
             if r.first < low || r.last < r.first || r.last > self.highest {
                 return false;
             }
             low = r.last + 2;
         }
-        self.runs[self.count..]
+        self.unused_from(self.count)
+    }
+
+    /// Whether the run places from one on are zero.
+    fn unused_from(&self, place: usize) -> bool {
+        self.runs[place..]
             .iter()
             .fold(0, |bits, r| bits | r.first | r.last)
             == 0
     }
 
     fn blank(&self) -> bool {
-        self.number == 0 && self.highest == 0 && !self.ended && self.count == 0
+        self.number == 0
+            && self.from == 0
+            && self.highest == 0
+            && !self.ended
+            && self.count == 0
+            && self.unused_from(0)
     }
 
     /// All numbers from behind the highest to a last one become missing; false where that takes a 33rd run.
@@ -95,6 +112,9 @@ impl Channel {
         if self.highest < n {
             return self.above(n);
         }
+        if n < self.from {
+            return BEFORE_START;
+        }
         match self.runs[..self.count]
             .iter()
             .position(|r| r.first <= n && n <= r.last)
@@ -122,6 +142,7 @@ impl From<&calls::Tracker> for Tracker {
         };
         let channel = |c: usize| Channel {
             number: t.numbers[c],
+            from: t.from[c],
             highest: t.highest[c],
             ended: t.ended[c] != 0,
             count: t.counts[c],
@@ -146,9 +167,7 @@ impl Tracker {
             }
             low = u32::from(c.number) + 1;
         }
-        self.channels[self.count..]
-            .iter()
-            .all(|c| c.blank() && c.sound())
+        self.channels[self.count..].iter().all(Channel::blank)
     }
 
     fn channel(&mut self, number: u16) -> Option<&mut Channel> {

@@ -1,7 +1,8 @@
-//! Set-ups, lists of arrivals, and trackers good and malformed.
+//! Lists of arrivals, and trackers good and malformed.
 
 use super::dice::Dice;
-use super::{Call, Input};
+use super::lists::{channels, first_number};
+use super::{Call, Input, Lists};
 use crate::receiver::{Tracker, CHANNELS, PLACES, RUNS};
 
 /// Made-up counts go up to this.
@@ -19,14 +20,19 @@ pub enum Way {
     ChannelNumbersEqual,
     ChannelNumbersDescending,
     UnusedChannelNumber,
+    UnusedFirstNumber,
     UnusedHighest,
     UnusedEndedMark,
     UnusedRunCount,
     UnusedChannelRun,
+    FirstNumberZero,
+    FirstNumberAboveTheLimit,
+    HighestBelowTheStart,
     HighestAboveTheLimit,
     OtherEndedMark,
     TooManyRuns,
     RunBeginsAtZero,
+    RunBeginsBelowTheStart,
     RunEndsAboveTheHighest,
     RunFirstAboveItsLast,
     RunsTouch,
@@ -37,21 +43,26 @@ pub enum Way {
 }
 
 impl Way {
-    pub const ALL: [Way; 21] = [
+    pub const ALL: [Way; 26] = [
         Way::AllZero,
         Way::NoChannel,
         Way::TooManyChannels,
         Way::ChannelNumbersEqual,
         Way::ChannelNumbersDescending,
         Way::UnusedChannelNumber,
+        Way::UnusedFirstNumber,
         Way::UnusedHighest,
         Way::UnusedEndedMark,
         Way::UnusedRunCount,
         Way::UnusedChannelRun,
+        Way::FirstNumberZero,
+        Way::FirstNumberAboveTheLimit,
+        Way::HighestBelowTheStart,
         Way::HighestAboveTheLimit,
         Way::OtherEndedMark,
         Way::TooManyRuns,
         Way::RunBeginsAtZero,
+        Way::RunBeginsBelowTheStart,
         Way::RunEndsAboveTheHighest,
         Way::RunFirstAboveItsLast,
         Way::RunsTouch,
@@ -69,14 +80,19 @@ impl Way {
             Way::ChannelNumbersEqual => "channel numbers equal",
             Way::ChannelNumbersDescending => "channel numbers descending",
             Way::UnusedChannelNumber => "unused channel number not zero",
+            Way::UnusedFirstNumber => "unused first number not zero",
             Way::UnusedHighest => "unused highest not zero",
             Way::UnusedEndedMark => "unused ended mark not zero",
             Way::UnusedRunCount => "unused run count not zero",
             Way::UnusedChannelRun => "unused channel's run not zero",
+            Way::FirstNumberZero => "first number 0",
+            Way::FirstNumberAboveTheLimit => "first number above the limit",
+            Way::HighestBelowTheStart => "highest below the first number less 1",
             Way::HighestAboveTheLimit => "highest above the limit",
             Way::OtherEndedMark => "ended mark neither 0 nor 1",
             Way::TooManyRuns => "more than 32 runs",
             Way::RunBeginsAtZero => "run begins at 0",
+            Way::RunBeginsBelowTheStart => "run begins below the first number",
             Way::RunEndsAboveTheHighest => "run ends above the highest",
             Way::RunFirstAboveItsLast => "run's first above its last",
             Way::RunsTouch => "runs touch",
@@ -88,54 +104,25 @@ impl Way {
     }
 }
 
-/// Channel numbers, strictly ascending.
-fn channels(dice: &mut Dice, count: usize) -> Vec<u16> {
-    let mut numbers = Vec::new();
-    while numbers.len() < count {
-        let number = match dice.below(8) {
-            0 => dice.pick(&[0, u16::MAX]),
-            1 => dice.bits() as u16,
-            _ => 2001 + dice.below(30) as u16,
-        };
-        if !numbers.contains(&number) {
-            numbers.push(number);
-        }
-    }
-    numbers.sort_unstable();
-    numbers
-}
-
-/// A list of channels: good, empty, too long, not strictly ascending.
-pub fn set_up(dice: &mut Dice) -> Input {
-    let count = dice.below(13) as usize;
-    let mut list = channels(dice, count);
-    if count > 1 && dice.one_in(2) {
-        let place = dice.below(count as u64 - 1) as usize;
-        if dice.one_in(2) {
-            list[place + 1] = list[place];
-        } else {
-            list.swap(place, place + 1);
-        }
-    }
-    Input::SetUp { channels: list }
-}
-
 /// A list of arrivals, each kind in turn.
 pub fn arrivals(dice: &mut Dice, turn: u64) -> Input {
     let count = 1 + dice.below(8) as usize;
-    let channels = channels(dice, count);
-    let calls = match turn % 4 {
-        0 => walk(dice, &channels),
-        1 => full_table(dice, &channels),
-        2 => high_numbers(dice, &channels),
-        _ => wide_runs(dice, &channels),
+    let mut lists = Lists::good(dice, count);
+    let calls = match turn % 5 {
+        0 => walk(dice, &lists),
+        1 => {
+            leave_room(&mut lists);
+            full_table(dice, &lists)
+        }
+        2 => high_numbers(dice, &lists),
+        3 => wide_runs(dice, &lists),
+        _ => starts(dice, &lists),
     };
-    Input::Arrivals { channels, calls }
+    Input::Arrivals { lists, calls }
 }
 
-/// One of the channels, at times one that may not be among them.
-fn a_channel(dice: &mut Dice, channels: &[u16]) -> u16 {
-    let known = dice.pick(channels);
+/// The channel, at times one that may not be in the tracker.
+fn a_channel(dice: &mut Dice, known: u16) -> u16 {
     match dice.below(24) {
         0 => known.wrapping_add(1),
         1 => dice.pick(&[0, 1, u16::MAX, 2011]),
@@ -166,34 +153,57 @@ fn an_arrival(dice: &mut Dice, channel: u16, number: i64) -> Call {
     Call::Tick { channel, number }
 }
 
-/// A call with any number, or a request.
-fn any_call(dice: &mut Dice, channels: &[u16], numbers: &[i64]) -> Call {
-    let channel = a_channel(dice, channels);
+/// A number so far above another, or the highest possible.
+fn above(number: i64, more: u64) -> i64 {
+    number.saturating_add_unsigned(more)
+}
+
+/// A number at a first number, beside it or far below.
+fn at_a_start(dice: &mut Dice, first: i64) -> i64 {
+    let far = 1 + dice.below(first as u64) as i64;
+    dice.pick(&[
+        first,
+        first,
+        first - 1,
+        first - 1,
+        above(first, 1),
+        first - 2,
+        far,
+        1,
+    ])
+}
+
+/// A call on a channel with any of these numbers, or one at its start; or a
+/// request.
+fn any_call(dice: &mut Dice, lists: &Lists, place: usize, numbers: &[i64]) -> Call {
+    let channel = a_channel(dice, lists.channels[place]);
     if dice.one_in(6) {
         return a_request(dice, channel);
     }
     let number = match dice.below(12) {
         0 => dice.pick(&[0, -1, i64::MIN, -5]),
+        1 => at_a_start(dice, lists.from[place]),
         _ => dice.pick(numbers),
     };
     an_arrival(dice, channel, number)
 }
 
 /// Numbers that mostly go on, with gaps, repeats and late ones.
-fn walk(dice: &mut Dice, channels: &[u16]) -> Vec<Call> {
-    let mut highest = vec![0i64; channels.len()];
+fn walk(dice: &mut Dice, lists: &Lists) -> Vec<Call> {
+    let mut highest: Vec<i64> = lists.from.iter().map(|first| first - 1).collect();
     let mut calls = Vec::new();
     for _ in 0..20 + dice.below(60) {
-        let place = dice.below(channels.len() as u64) as usize;
-        let before = highest[place];
-        let number = match dice.below(8) {
-            0 | 1 => 1 + dice.below(before as u64 + 1) as i64,
+        let place = lists.a_place(dice);
+        let (first, before) = (lists.from[place], highest[place]);
+        let number = match dice.below(9) {
+            0 | 1 => above(first, dice.below((before - first + 2) as u64)),
             2 => before,
-            3 => before + 2 + dice.below(5) as i64,
-            _ => before + 1,
+            3 => above(before, 2 + dice.below(5)),
+            4 => at_a_start(dice, first),
+            _ => above(before, 1),
         };
         highest[place] = before.max(number);
-        let channel = a_channel(dice, &channels[place..=place]);
+        let channel = a_channel(dice, lists.channels[place]);
         calls.push(an_arrival(dice, channel, number));
         if dice.one_in(6) {
             calls.push(a_request(dice, channel));
@@ -202,56 +212,92 @@ fn walk(dice: &mut Dice, channels: &[u16]) -> Vec<Call> {
     calls
 }
 
+/// Numbers that `full_table` goes above a first number.
+const ROOM: i64 = 250;
+
+/// Lowers first numbers, so that a table can be filled above each.
+fn leave_room(lists: &mut Lists) {
+    for first in &mut lists.from {
+        *first = (*first).min(i64::MAX - ROOM);
+    }
+}
+
 /// A table with all 32 runs in use, or nearly so, and what comes then.
-fn full_table(dice: &mut Dice, channels: &[u16]) -> Vec<Call> {
-    let channel = dice.pick(channels);
+fn full_table(dice: &mut Dice, lists: &Lists) -> Vec<Call> {
+    let place = lists.a_place(dice);
+    let (channel, first) = (lists.channels[place], lists.from[place]);
     let step = 2 + dice.below(4) as i64;
     let ticks = 30 + dice.below(5) as i64;
     let mut calls: Vec<Call> = (1..=ticks)
         .map(|n| Call::Tick {
             channel,
-            number: n * step,
+            number: first - 1 + n * step,
         })
         .collect();
     if dice.one_in(2) {
         calls.push(Call::Heartbeat {
             channel,
-            last: (ticks + 1) * step,
+            last: first - 1 + (ticks + 1) * step,
             end: 0,
         });
     }
-    let mut above = ticks * step;
+    let mut highest = first - 1 + ticks * step;
     for _ in 0..10 + dice.below(30) {
         let number = match dice.below(6) {
-            0 => above + 1,
-            1 => above + 2,
-            2 => above,
-            _ => 1 + dice.below(above as u64 + 3) as i64,
+            0 => highest + 1,
+            1 => highest + 2,
+            2 => highest,
+            _ => first + dice.below((highest - first) as u64 + 4) as i64,
         };
-        above += dice.below(2) as i64;
-        calls.push(any_call(dice, &[channel], &[number]));
+        highest += dice.below(2) as i64;
+        calls.push(any_call(dice, lists, place, &[number]));
     }
     calls
 }
 
 /// The highest possible numbers.
-fn high_numbers(dice: &mut Dice, channels: &[u16]) -> Vec<Call> {
+fn high_numbers(dice: &mut Dice, lists: &Lists) -> Vec<Call> {
     let mut numbers: Vec<i64> = (0..6).map(|below| i64::MAX - below).collect();
     numbers.extend_from_slice(&[1, 2, 3, 200, 201, 202, i64::MAX / 2, 1 << 32, (1 << 32) + 1]);
     numbers.push(dice.wide() as i64 & i64::MAX);
-    (0..10 + dice.below(40))
-        .map(|_| any_call(dice, channels, &numbers))
+    let calls = 10 + dice.below(40);
+    (0..calls)
+        .map(|_| {
+            let place = lists.a_place(dice);
+            any_call(dice, lists, place, &numbers)
+        })
         .collect()
 }
 
 /// Wide runs that late numbers split, around the batch of 200.
-fn wide_runs(dice: &mut Dice, channels: &[u16]) -> Vec<Call> {
-    let few = &channels[..channels.len().min(2)];
+fn wide_runs(dice: &mut Dice, lists: &Lists) -> Vec<Call> {
+    let few = lists.channels.len().min(2) as u64;
     let mut calls = Vec::new();
     for _ in 0..40 + dice.below(60) {
+        let place = dice.below(few) as usize;
         let most = dice.pick(&[100, 250, 1_000, 5_000]);
-        let number = 1 + dice.below(most) as i64;
-        calls.push(any_call(dice, few, &[number, number, 199, 200, 201, 202]));
+        let behind = dice.below(most);
+        let numbers = [behind, behind, 198, 199, 200, 201];
+        let numbers = numbers.map(|behind| above(lists.from[place], behind));
+        calls.push(any_call(dice, lists, place, &numbers));
+    }
+    calls
+}
+
+/// Arrivals at the channels' first numbers, and few others.
+fn starts(dice: &mut Dice, lists: &Lists) -> Vec<Call> {
+    let mut calls = Vec::new();
+    for _ in 0..10 + dice.below(30) {
+        let place = lists.a_place(dice);
+        let first = lists.from[place];
+        let (near, far) = (dice.below(8), dice.below(300));
+        let numbers = [
+            at_a_start(dice, first),
+            at_a_start(dice, first),
+            above(first, near),
+            above(first, far),
+        ];
+        calls.push(any_call(dice, lists, place, &numbers));
     }
     calls
 }
@@ -263,17 +309,26 @@ fn tracker(dice: &mut Dice, count: usize, least: usize, most: usize) -> Tracker 
     for (place, number) in channels(dice, count).into_iter().enumerate() {
         tracker.numbers[place] = number;
         tracker.ended[place] = dice.below(2) as u8;
-        let runs = least + dice.below((most - least) as u64 + 1) as usize;
-        let runs = if dice.one_in(3) { most } else { runs };
+        let runs = match dice.below(6) {
+            0 | 1 => most,
+            2 => least,
+            _ => least + dice.below((most - least) as u64 + 1) as usize,
+        };
         add_runs(dice, &mut tracker, place, runs);
     }
     tracker
 }
 
-/// Gives a channel runs, and a highest number above them.
+/// Gives a channel a first number that leaves room for so many runs, these
+/// runs, and a highest number above them.
 fn add_runs(dice: &mut Dice, tracker: &mut Tracker, channel: usize, runs: usize) {
-    let magnitude = dice.pick(&[1, 2, 8, 40, 57]);
-    let mut free = 1;
+    let room = 2 * (runs as u64).max(1);
+    let from = (first_number(dice) as u64).min(HIGHEST + 2 - room);
+    let fits = |magnitude: &u32| from + ((runs as u64) << (magnitude + 1)) <= HIGHEST + 2;
+    let magnitudes: Vec<u32> = [0, 1, 2, 8, 40, 57].into_iter().filter(fits).collect();
+    let magnitude = dice.pick(&magnitudes);
+    let mut free = from;
+    tracker.from[channel] = from;
     tracker.counts[channel] = runs;
     for place in channel * RUNS..channel * RUNS + runs {
         let first = free + dice.below(1 << magnitude);
@@ -282,29 +337,33 @@ fn add_runs(dice: &mut Dice, tracker: &mut Tracker, channel: usize, runs: usize)
         tracker.last[place] = last;
         free = last + 2;
     }
-    let least = if runs == 0 { 0 } else { free - 2 };
+    let least = if runs == 0 { from - 1 } else { free - 2 };
     tracker.highest[channel] = match dice.below(4) {
         0 => least,
         1 => HIGHEST,
-        _ => least + dice.below(1 << magnitude),
+        _ => (least + dice.below(1 << magnitude)).min(HIGHEST),
     };
 }
 
-/// Numbers around a channel's runs and highest number.
-fn telling_numbers(dice: &mut Dice, tracker: &Tracker) -> Vec<i64> {
-    let channel = dice.below(tracker.count.clamp(1, 8) as u64) as usize;
-    let highest = tracker.highest[channel] & HIGHEST;
-    let mut numbers = vec![
-        highest,
-        highest.saturating_add(1),
-        highest.saturating_add(2),
-        1,
-    ];
+/// The lists of a well-formed tracker's set-up.
+fn lists_of(tracker: &Tracker) -> Lists {
+    let from = &tracker.from[..tracker.count];
+    Lists {
+        channels: tracker.numbers[..tracker.count].to_vec(),
+        from: from.iter().map(|first| *first as i64).collect(),
+    }
+}
+
+/// Numbers around a channel's first and highest number, and its runs.
+fn telling_numbers(dice: &mut Dice, tracker: &Tracker, channel: usize) -> Vec<i64> {
+    let (from, highest) = (tracker.from[channel], tracker.highest[channel]);
+    let mut numbers = vec![highest, highest + 1, highest + 2, 1];
+    numbers.extend_from_slice(&[from, from - 1]);
     for _ in 0..4 {
         let place = channel * RUNS + dice.below(RUNS as u64) as usize;
         let (first, last) = (tracker.first[place], tracker.last[place]);
         let middle = first / 2 + last / 2;
-        numbers.extend_from_slice(&[first, last, middle, last.saturating_add(1)]);
+        numbers.extend_from_slice(&[first, last, middle, last + 1]);
         numbers.push(first.saturating_sub(1));
     }
     numbers
@@ -317,9 +376,13 @@ fn telling_numbers(dice: &mut Dice, tracker: &Tracker) -> Vec<i64> {
 pub fn good(dice: &mut Dice) -> Input {
     let count = 1 + dice.below(8) as usize;
     let tracker = tracker(dice, count, 0, RUNS);
-    let numbers = telling_numbers(dice, &tracker);
-    let used = tracker.numbers[..count].to_vec();
-    let calls = (0..12).map(|_| any_call(dice, &used, &numbers)).collect();
+    let lists = lists_of(&tracker);
+    let mut calls = Vec::new();
+    for _ in 0..12 {
+        let place = lists.a_place(dice);
+        let numbers = telling_numbers(dice, &tracker, place);
+        calls.push(any_call(dice, &lists, place, &numbers));
+    }
     Input::Tracker {
         way: None,
         tracker: Box::new(tracker),
@@ -334,7 +397,8 @@ pub fn malformed(dice: &mut Dice, turn: u64) -> Input {
     let count = 2 + dice.below(6) as usize;
     let mut tracker = tracker(dice, count, 2, RUNS - 1);
     spoil(dice, way, &mut tracker);
-    let channel = a_channel(dice, &tracker.numbers[..count]);
+    let known = dice.pick(&tracker.numbers[..count]);
+    let channel = a_channel(dice, known);
     let number = dice.pick(&[1, 2, 5, 0, -1, i64::MIN, i64::MAX]);
     let end = an_end(dice);
     let calls = vec![
@@ -367,6 +431,10 @@ fn spoil(dice: &mut Dice, way: Way, tracker: &mut Tracker) {
         Way::ChannelNumbersEqual => tracker.numbers[1] = tracker.numbers[0],
         Way::ChannelNumbersDescending => tracker.numbers.swap(count - 2, count - 1),
         Way::UnusedChannelNumber => tracker.numbers[unused] = 1 + dice.below(65_535) as u16,
+        Way::UnusedFirstNumber => {
+            let any = 1 + dice.wide() % HIGHEST;
+            tracker.from[unused] = dice.pick(&[1, any, HIGHEST + 1, u64::MAX])
+        }
         Way::UnusedHighest => tracker.highest[unused] = 1 + dice.wide() % HIGHEST,
         Way::UnusedEndedMark => tracker.ended[unused] = 1,
         Way::UnusedRunCount => {
@@ -383,8 +451,52 @@ fn spoil(dice: &mut Dice, way: Way, tracker: &mut Tracker) {
         Way::TooManyRuns => {
             tracker.counts[used] = dice.pick(&[33, 34, 64, 255, 256, 1 << 32, COUNT_LIMIT])
         }
+        Way::FirstNumberZero
+        | Way::FirstNumberAboveTheLimit
+        | Way::HighestBelowTheStart
+        | Way::RunBeginsBelowTheStart => spoil_start(dice, way, tracker, used),
         _ => spoil_runs(dice, way, tracker, used),
     }
+}
+
+/// Spoils how the first number of a channel in use goes with the rest of it.
+fn spoil_start(dice: &mut Dice, way: Way, tracker: &mut Tracker, used: usize) {
+    match way {
+        Way::FirstNumberZero => {
+            tracker.from[used] = 0;
+            if dice.one_in(2) {
+                take_runs(tracker, used);
+                tracker.highest[used] = dice.pick(&[0, 0, 1, HIGHEST]);
+            }
+        }
+        Way::FirstNumberAboveTheLimit => {
+            take_runs(tracker, used);
+            tracker.highest[used] = HIGHEST;
+            tracker.from[used] = HIGHEST + 1;
+        }
+        Way::HighestBelowTheStart => {
+            take_runs(tracker, used);
+            let from = tracker.from[used].max(2);
+            tracker.from[used] = from;
+            tracker.highest[used] = dice.pick(&[from - 2, from - 2, from / 2, 0]).min(from - 2);
+        }
+        _ => {
+            let place = used * RUNS;
+            let below = [
+                tracker.first[place],
+                tracker.last[place],
+                tracker.highest[used],
+            ];
+            tracker.from[used] = (dice.pick(&below) + 1).min(HIGHEST);
+        }
+    }
+}
+
+/// Takes a channel's runs away.
+fn take_runs(tracker: &mut Tracker, channel: usize) {
+    tracker.counts[channel] = 0;
+    tracker.first[channel * RUNS..][..RUNS].fill(0);
+    tracker.last[channel * RUNS..][..RUNS].fill(0);
 }
 
 /// Spoils the runs of a channel in use.
@@ -396,8 +508,9 @@ fn spoil_runs(dice: &mut Dice, way: Way, tracker: &mut Tracker, used: usize) {
         Way::RunBeginsAtZero => tracker.first[used * RUNS] = 0,
         Way::RunEndsAboveTheHighest => {
             let last = tracker.last[used * RUNS + runs - 1];
-            let low = [last - 1, last / 2, 0];
-            tracker.highest[used] = dice.pick(&low).min(last - 1);
+            let least = tracker.from[used] - 1;
+            let low = [last - 1, last / 2, least];
+            tracker.highest[used] = dice.pick(&low).clamp(least, last - 1);
         }
         Way::RunFirstAboveItsLast => tracker.first[one] = tracker.last[one] + 1,
         Way::RunsTouch => tracker.last[one] = tracker.first[one + 1] - 1,

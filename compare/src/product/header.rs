@@ -335,7 +335,7 @@ pub fn structs() -> String {
         Cursor = Cursor { offset, left }
         StepAnswer = StepAnswer { answer, entry, next }
         QuantityAnswer = QuantityAnswer { answer, quantity }
-        Tracker = Tracker { count, numbers, highest, ended, counts, first, last }
+        Tracker = Tracker { count, numbers, from, highest, ended, counts, first, last }
         StartAnswer = StartAnswer { answer, tracker }
         WriteAnswer = WriteAnswer { answer, written }
     }
@@ -390,6 +390,7 @@ macro_rules! trackers {
             $(fn $name(
                 count: usize,
                 numbers: *const u16,
+                from: *const u64,
                 highest: *$lends u64,
                 ended: *$lends u8,
                 counts: *$lends usize,
@@ -437,7 +438,7 @@ calls! {
     fn orizhgum_entry_price(kind: u32, body: *const u8, length: usize, i: u32, price: *mut i64) -> u32;
     fn orizhgum_quantity(kind: u32, body: *const u8, length: usize, i: u32, j: u32) -> QuantityAnswer;
 
-    fn orizhgum_set_up(channels: *const u16, length: usize) -> StartAnswer;
+    fn orizhgum_set_up(channels: *const u16, length: usize, from: *const i64, from_length: usize) -> StartAnswer;
 }
 
 trackers! {
@@ -470,6 +471,7 @@ pub const DUPLICATE: u32 = 104;
 pub const NOTHING_MISSING: u32 = 105;
 pub const MORE: u32 = 106;
 pub const END: u32 = 107;
+pub const BEFORE_START: u32 = 108;
 
 /// Where the bytes of a stream's frame stand, by number.
 pub const IN_CUT: u32 = 1;
@@ -521,6 +523,7 @@ pub fn numbers() -> String {
             NOTHING_MISSING = "NOTHING_MISSING",
             MORE = "MORE",
             END = "END",
+            BEFORE_START = "BEFORE_START",
             IN_CUT = "IN_CUT",
             IN_BUFFER = "IN_BUFFER",
             SAYS_LEVEL = "SAYS_LEVEL",
@@ -583,7 +586,7 @@ fn sizes() -> String {
 }
 
 /// The version's three numbers.
-const VERSION: [usize; 3] = [0, 5, 1];
+const VERSION: [usize; 3] = [0, 6, 0];
 
 /// The version as one text.
 pub fn version() -> String {

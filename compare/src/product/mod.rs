@@ -281,6 +281,7 @@ macro_rules! lend {
             $call(
                 $tracker.count,
                 $tracker.numbers.as_ptr(),
+                $tracker.from.as_ptr(),
                 $tracker.highest.$lends(),
                 $tracker.ended.$lends(),
                 $tracker.counts.$lends(),
@@ -411,8 +412,9 @@ impl Receiver for Product {
         }
     }
 
-    fn set_up(&self, channels: &[u16]) -> SetUpAnswer {
-        let told = unsafe { orizhgum_set_up(lent(channels), channels.len()) };
+    fn set_up(&self, channels: &[u16], from: &[i64]) -> SetUpAnswer {
+        let (count, firsts) = (channels.len(), from.len());
+        let told = unsafe { orizhgum_set_up(lent(channels), count, lent(from), firsts) };
         SetUpAnswer {
             refused: (told.answer != 0).then_some(told.answer),
             tracker: told.tracker,
@@ -425,6 +427,7 @@ impl Receiver for Product {
             0 => Verdict::New,
             LATE => Verdict::Late,
             DUPLICATE => Verdict::Duplicate,
+            BEFORE_START => Verdict::BeforeStart,
             answer => Verdict::Refused(answer),
         };
         ArrivalAnswer { verdict, next }

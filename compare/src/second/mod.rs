@@ -77,8 +77,8 @@ impl Receiver for Second {
         writer::write(&self.rules, draft, output)
     }
 
-    fn set_up(&self, channels: &[u16]) -> SetUpAnswer {
-        tracker::set_up(&self.rules, channels)
+    fn set_up(&self, channels: &[u16], from: &[i64]) -> SetUpAnswer {
+        tracker::set_up(&self.rules, channels, from)
     }
 
     fn tick(&self, tracker: &Tracker, channel: u16, number: i64) -> ArrivalAnswer {

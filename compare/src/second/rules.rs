@@ -47,8 +47,8 @@ pub struct Rules {
     pub runs: usize,
     /// A request asks for up to this many numbers.
     pub batch: u64,
-    /// Gaps run from this number to the highest.
-    pub first_number: u64,
+    /// What a channel's first number, from which gaps run, may be.
+    pub first_numbers: (u64, u64),
     /// The highest number that there can be.
     pub number_limit: u64,
 }
@@ -98,7 +98,7 @@ impl Rules {
             channels: 8,
             runs: 32,
             batch: 200,
-            first_number: 1,
+            first_numbers: (1, 9_223_372_036_854_775_807),
             number_limit: 9_223_372_036_854_775_807,
         }
     }

@@ -1,5 +1,5 @@
-//! The tracker: the highest number, the ended mark and the runs of missing
-//! numbers of each channel; and the request for lost messages.
+//! The tracker: the first and the highest number, the ended mark and the runs
+//! of missing numbers of each channel; and the request for lost messages.
 
 use super::layout::RESEND;
 use super::rules::Rules;
@@ -13,23 +13,46 @@ use crate::receiver::{
 type Run = (u64, u64);
 
 /// Sets up a tracker. Refused by 10 it is the all-zero tracker.
-pub fn set_up(rules: &Rules, channels: &[u16]) -> SetUpAnswer {
-    if !good_list(rules, channels) {
-        return SetUpAnswer {
+pub fn set_up(rules: &Rules, channels: &[u16], from: &[i64]) -> SetUpAnswer {
+    match first_numbers(rules, channels, from) {
+        None => SetUpAnswer {
             refused: Some(10),
             tracker: Tracker::ZERO,
-        };
+        },
+        Some(from) => SetUpAnswer {
+            refused: None,
+            tracker: fresh(channels, &from),
+        },
     }
+}
+
+/// The first numbers of good lists: one for each channel.
+fn first_numbers(rules: &Rules, channels: &[u16], from: &[i64]) -> Option<Vec<u64>> {
+    if !good_list(rules, channels) || from.len() != channels.len() {
+        return None;
+    }
+    from.iter()
+        .map(|first| u64::try_from(*first).ok())
+        .map(|first| first.filter(|first| is_first(rules, *first)))
+        .collect()
+}
+
+/// The tracker to which nothing has come: each channel's highest number is one
+/// below its first.
+fn fresh(channels: &[u16], from: &[u64]) -> Tracker {
     let mut tracker = Tracker::ZERO;
     tracker.count = channels.len();
-    for (place, number) in channels.iter().enumerate() {
-        tracker.numbers[place] = *number;
-        tracker.highest[place] = rules.first_number - 1;
+    tracker.numbers[..channels.len()].copy_from_slice(channels);
+    tracker.from[..from.len()].copy_from_slice(from);
+    for (place, first) in from.iter().enumerate() {
+        tracker.highest[place] = first - 1;
     }
-    SetUpAnswer {
-        refused: None,
-        tracker,
-    }
+    tracker
+}
+
+/// Whether a channel can begin with this number.
+fn is_first(rules: &Rules, first: u64) -> bool {
+    rules.first_numbers.0 <= first && first <= rules.first_numbers.1
 }
 
 /// 1 to 8 channel numbers, strictly ascending.
@@ -51,15 +74,15 @@ fn well_formed(rules: &Rules, tracker: &Tracker) -> bool {
 /// Whether a channel in use keeps the rules.
 fn channel_holds(rules: &Rules, tracker: &Tracker, channel: usize) -> bool {
     let count = tracker.counts[channel];
-    let highest = tracker.highest[channel];
+    let (from, highest) = (tracker.from[channel], tracker.highest[channel]);
     if count > rules.runs || tracker.ended[channel] > 1 {
         return false;
     }
-    if highest < rules.first_number - 1 || highest > rules.number_limit {
+    if !is_first(rules, from) || highest < from - 1 || highest > rules.number_limit {
         return false;
     }
     let runs = runs_of(tracker, channel);
-    let inside = |run: &Run| rules.first_number <= run.0 && run.0 <= run.1 && run.1 <= highest;
+    let inside = |run: &Run| from <= run.0 && run.0 <= run.1 && run.1 <= highest;
     runs.iter().all(inside)
         && runs.windows(2).all(|pair| pair[0].1 + 1 < pair[1].0)
         && (count..RUNS).all(|place| run_at(tracker, channel, place) == (0, 0))
@@ -68,6 +91,7 @@ fn channel_holds(rules: &Rules, tracker: &Tracker, channel: usize) -> bool {
 /// Whether an unused channel's places are zero.
 fn channel_is_unused(tracker: &Tracker, channel: usize) -> bool {
     tracker.numbers[channel] == 0
+        && tracker.from[channel] == 0
         && tracker.highest[channel] == 0
         && tracker.ended[channel] == 0
         && tracker.counts[channel] == 0
@@ -133,7 +157,7 @@ pub fn tick(rules: &Rules, tracker: &Tracker, channel: u16, number: i64) -> Arri
     answer(tracker, judge_tick(rules, tracker, channel, number))
 }
 
-/// 10, 7, 8, 9; else new, late or duplicate.
+/// 10, 7, 8; then before start; then 9; else new, late or duplicate.
 fn judge_tick(
     rules: &Rules,
     tracker: &Tracker,
@@ -145,6 +169,9 @@ fn judge_tick(
         return Err(8);
     }
     let number = number as u64;
+    if number < tracker.from[place] {
+        return Ok((Verdict::BeforeStart, *tracker));
+    }
     if number > tracker.highest[place] {
         let mut next = with_missing(rules, tracker, place, number - 1)?;
         next.highest[place] = number;

@@ -2,6 +2,7 @@
 //! reported as different.
 
 use super::second;
+use super::starts::{Start, OF_GAPS, OF_HEARTBEATS, OF_SET_UPS, OF_TICKS, OF_TRACKERS};
 use compare::compare::compare;
 use compare::receiver::{
     ArrivalAnswer, Cursor, Draft, Entry, Found, FrameAnswer, Given, Group, PriceAnswer, ReadAnswer,
@@ -57,7 +58,11 @@ fn limits_one_off() {
     changed("channels", |rules| rules.channels = 7);
     changed("batch", |rules| rules.batch = 199);
     changed("batch above", |rules| rules.batch = 201);
-    changed("first number", |rules| rules.first_number = 2);
+    changed("first numbers", |rules| rules.first_numbers.0 = 2);
+    changed("largest first number", |rules| rules.first_numbers.1 -= 1);
+    changed("largest first number above", |rules| {
+        rules.first_numbers.1 += 1
+    });
     changed("highest number", |rules| rules.number_limit -= 1);
     changed("highest number above", |rules| rules.number_limit += 1);
 }
@@ -193,9 +198,11 @@ enum How {
     MoreCountsTheHeldAlone,
     EndMissesNothing,
     RepeatedMissesNothing,
+    /// A first number wrong.
+    Start(Start),
 }
 
-/// All but those that get a number of missing bytes wrong.
+/// All but those that get a number of missing bytes or a first number wrong.
 const ALL: [How; 43] = [
     How::RefusesEveryFrame,
     How::AnswersHeartbeatAlways,
@@ -256,6 +263,11 @@ const MISSING: [How; 11] = [
     How::EndMissesNothing,
     How::RepeatedMissesNothing,
 ];
+
+/// Whether a number has come on any channel of a tracker.
+fn has_come(tracker: &Tracker) -> bool {
+    (0..tracker.count).any(|place| tracker.highest[place] >= tracker.from[place])
+}
 
 /// A stream that has stopped at 2.
 const STOPPED: Stream = Stream { held: 0, mark: 2 };
@@ -550,11 +562,17 @@ impl Receiver for Broken {
         answer
     }
 
-    fn set_up(&self, channels: &[u16]) -> SetUpAnswer {
-        self.second.set_up(channels)
+    fn set_up(&self, channels: &[u16], from: &[i64]) -> SetUpAnswer {
+        match self.how {
+            How::Start(start) => start.set_up(&self.second, channels, from),
+            _ => self.second.set_up(channels, from),
+        }
     }
 
     fn tick(&self, tracker: &Tracker, channel: u16, number: i64) -> ArrivalAnswer {
+        if let How::Start(start) = self.how {
+            return start.tick(&self.second, tracker, channel, number);
+        }
         let mut answer = self.second.tick(tracker, channel, number);
         let refused = matches!(answer.verdict, Verdict::Refused(_));
         match self.how {
@@ -565,7 +583,7 @@ impl Receiver for Broken {
             How::EightBeforeTen if answer.verdict == Verdict::Refused(10) && number < 1 => {
                 answer.verdict = Verdict::Refused(8)
             }
-            How::NewEverAfter if !refused && tracker.highest != [0; 8] => {
+            How::NewEverAfter if !refused && has_come(tracker) => {
                 answer = ArrivalAnswer {
                     verdict: Verdict::New,
                     next: *tracker,
@@ -580,6 +598,9 @@ impl Receiver for Broken {
     }
 
     fn heartbeat(&self, tracker: &Tracker, channel: u16, last: i64, end: u8) -> ArrivalAnswer {
+        if let How::Start(start) = self.how {
+            return start.heartbeat(&self.second, tracker, channel, last, end);
+        }
         let end = match self.how {
             How::EndsOnOneOnly => u8::from(end == 1),
             _ => end,
@@ -592,6 +613,9 @@ impl Receiver for Broken {
     }
 
     fn request(&self, tracker: &Tracker, channel: u16, output: &mut [u8]) -> RequestAnswer {
+        if let How::Start(start) = self.how {
+            return start.request(&self.second, tracker, channel, output);
+        }
         let answer = self.second.request(tracker, channel, output);
         let nothing = answer == RequestAnswer::NothingMissing;
         if self.is(How::RequestChangesTheOutput) && nothing && !output.is_empty() {
@@ -680,6 +704,68 @@ fn wrong_numbers_of_missing_bytes_are_told() {
         let (first, second) = answers(&told);
         assert!(but_missing(first).is_some(), "{told}");
         assert_eq!(but_missing(first), but_missing(second), "{told}");
+    }
+}
+
+/// How a wrong first number is told: the call, and both answers.
+fn start_told(start: Start) -> (String, String, String) {
+    let told = difference(&Broken {
+        second: second(),
+        how: How::Start(start),
+    });
+    let told = told.unwrap_or_else(|| panic!("{start:?}: no difference"));
+    println!("{start:?}: {}", told.lines().next().unwrap_or(""));
+    let (_, call) = told.split_once("\ncall:   ").expect("the call");
+    let (first, second) = answers(&told);
+    (call.to_string(), first.to_string(), second.to_string())
+}
+
+#[test]
+fn first_numbers_that_a_set_up_gets_wrong_are_told() {
+    for start in OF_SET_UPS {
+        let (call, _, _) = start_told(start);
+        assert!(call.starts_with("set up "), "{start:?}: {call}");
+    }
+}
+
+#[test]
+fn ticks_that_a_first_number_decides_are_told() {
+    for start in OF_TICKS {
+        let (call, first, second) = start_told(start);
+        assert!(call.starts_with("Tick "), "{start:?}: {call}");
+        let below = |answer: &str| answer.contains("verdict: BeforeStart");
+        let changed = matches!(start, Start::BelowLowersTheFirst | Start::BelowSetsTheMark);
+        assert_eq!(below(&first) && below(&second), changed, "{start:?}");
+        assert!(below(&first) || below(&second), "{start:?}");
+    }
+}
+
+#[test]
+fn last_numbers_below_a_first_number_are_told() {
+    for start in OF_HEARTBEATS {
+        let (call, _, second) = start_told(start);
+        assert!(call.starts_with("Heartbeat "), "{start:?}: {call}");
+        assert!(second.contains("verdict: Heard"), "{start:?}");
+    }
+}
+
+#[test]
+fn gaps_that_begin_elsewhere_are_told() {
+    for start in OF_GAPS {
+        let (call, _, _) = start_told(start);
+        assert!(
+            call.starts_with("Tick ") || call.starts_with("Heartbeat "),
+            "{start:?}: {call}"
+        );
+    }
+}
+
+#[test]
+fn trackers_accepted_with_a_wrong_first_number_are_told() {
+    for start in OF_TRACKERS {
+        let (_, first, second) = start_told(start);
+        assert!(!first.contains("Refused(10)"), "{start:?}: {first}");
+        assert!(second.contains("Refused(10)"), "{start:?}: {second}");
     }
 }
 

@@ -100,6 +100,10 @@ fn other_declarations_are_refused() {
     let all = declared();
     for (place, (old, new)) in [
         ("ORIZHGUM_LATE == 103", "ORIZHGUM_LATE == 104"),
+        (
+            "ORIZHGUM_BEFORE_START == 108",
+            "ORIZHGUM_BEFORE_START == 107",
+        ),
         ("ORIZHGUM_IN_BUFFER == 2", "ORIZHGUM_IN_BUFFER == 1"),
         (
             "struct orizhgum_stream orizhgum_stream_new(void);",
@@ -129,6 +133,19 @@ fn other_declarations_are_refused() {
             "struct orizhgum_cursor orizhgum_cursor(",
             "struct orizhgum_entry orizhgum_cursor(",
         ),
+        (
+            "orizhgum_set_up(const uint16_t *, size_t, const int64_t *, size_t);",
+            "orizhgum_set_up(const uint16_t *, size_t, const uint64_t *, size_t);",
+        ),
+        (
+            "orizhgum_tick_in(size_t, const uint16_t *, const uint64_t *, uint64_t *,",
+            "orizhgum_tick_in(size_t, const uint16_t *, uint64_t *, uint64_t *,",
+        ),
+        (
+            "offsetof(struct orizhgum_tracker, from) == 24",
+            "offsetof(struct orizhgum_tracker, from) == 88",
+        ),
+        ("->from[0], uint64_t *: 1", "->from[0], int64_t *: 1"),
         ("struct orizhgum_common *: 1", "struct orizhgum_order *: 1"),
         ("->ended[0], uint8_t *: 1", "->ended[0], _Bool *: 1"),
         (

@@ -128,7 +128,12 @@ fn texts_stand_between_the_numbers() {
 
 /// A request on channel 2011 after one tick.
 fn request(number: i64, room: usize) -> (RequestAnswer, Vec<u8>) {
-    let tracker = second().set_up(&[2011]).tracker;
+    request_from(1, number, room)
+}
+
+/// The same on a channel with another first number.
+fn request_from(first: i64, number: i64, room: usize) -> (RequestAnswer, Vec<u8>) {
+    let tracker = second().set_up(&[2011], &[first]).tracker;
     let next = second().tick(&tracker, 2011, number).next;
     let mut output = vec![0xA5; room];
     let answer = second().request(&next, 2011, &mut output);
@@ -156,15 +161,28 @@ fn request_asks_for_200_numbers_at_most() {
 }
 
 #[test]
+fn request_asks_from_the_first_number_on() {
+    let (answer, output) = request_from(100_000, 100_300, 56);
+    assert_eq!(answer, RequestAnswer::Written(56));
+    assert_eq!(output[11..27], hex("00000000000186A0 0000000000018767"));
+    let (answer, output) = request_from(100_000, 100_001, 56);
+    assert_eq!(answer, RequestAnswer::Written(56));
+    assert_eq!(output[11..27], hex("00000000000186A0 00000000000186A0"));
+    let nothing = (RequestAnswer::NothingMissing, vec![0xA5; 56]);
+    assert_eq!(request_from(100_000, 100_000, 56), nothing);
+    assert_eq!(request_from(100_000, 99_999, 56), nothing);
+}
+
+#[test]
 fn request_refuses_in_order() {
     assert_eq!(request(1, 0), (RequestAnswer::NothingMissing, vec![]));
     assert_eq!(request(5, 55), (RequestAnswer::Refused(6), vec![0xA5; 55]));
-    let tracker = second().set_up(&[2011]).tracker;
+    let tracker = second().set_up(&[2011], &[1]).tracker;
     assert_eq!(
         second().request(&tracker, 2012, &mut []),
         RequestAnswer::Refused(7)
     );
-    let none = second().set_up(&[]).tracker;
+    let none = second().set_up(&[], &[]).tracker;
     assert_eq!(
         second().request(&none, 2012, &mut []),
         RequestAnswer::Refused(10)

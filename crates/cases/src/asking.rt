@@ -23,7 +23,8 @@ fn with(tracker: Tracker, channel: u16, room: usize) -> Case {
 
 fn fresh() -> Tracker {
     let numbers: [u16; 1] = [CHANNEL];
-    let started = Tracker::set_up(&numbers);
+    let from: [i64; 1] = [1];
+    let started = Tracker::set_up(&numbers, &from);
     started.tracker
 }
 

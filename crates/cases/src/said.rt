@@ -63,6 +63,7 @@ pub fn write(lines: &mut [u8], at: usize, names: &[u8], i: u64, said: Said) -> u
 : nothing missing
 : written 
 : refused 
+: before start
 ";
     let a = text::word(lines, at, line_of(names, i));
     let b = text::word(lines, a, line_of(words, said.word));

@@ -14,6 +14,7 @@ fn said(v: Verdict) -> Said {
         Verdict::Late => said::plain(1),
         Verdict::Duplicate => said::plain(2),
         Verdict::Heard => said::plain(3),
+        Verdict::BeforeStart => said::plain(7),
         Verdict::NoSuchChannel => said::refused(v.number() as u64),
         Verdict::NumberTooLow => said::refused(v.number() as u64),
         Verdict::TableFull => said::refused(v.number() as u64),
@@ -24,7 +25,8 @@ fn said(v: Verdict) -> Said {
 // The tracker of one channel after ticks 2, 4, up to 62.
 fn evens() -> Tracker {
     let numbers: [u16; 1] = [CHANNEL];
-    let started = Tracker::set_up(&numbers);
+    let from: [i64; 1] = [1];
+    let started = Tracker::set_up(&numbers, &from);
     let mut t = started.tracker;
     let mut n: u64 = 2;
     while n < 64 {

@@ -1,16 +1,16 @@
 -- Demand 1: each call's answer is the refusal of the first rule whose condition holds, and leaves things as they stood.
 -- Assumes nothing.
 use Prim.Native.Nat.{ℕ, zero, suc, _+_, _≤_, _<_, zero-le}
-use mathlib.Core.Path.{_≡_, refl, sym, subst, _∙_}
-use mathlib.Core.Bool.{Bool, true, false, true≢false, not, cond}
+use mathlib.Core.Path.{_≡_, refl, ap, sym, subst, _∙_}
+use mathlib.Core.Bool.{Bool, true, false, true≢false, false≢true, not, cond, _&&_}
 use mathlib.Core.Logic.{_↔_, _⊎_, inl, inr, ⊎-elim}
 use mathlib.Core.List.{List, [], _∷_}
 use native.Mathlib.Omega.{arith}
-use borrow.Author.Tests.{ltb-true, ltb-false, leb-true, leb-false, le-leb, eqb-true, eqb-false, not-true, not-false}
+use borrow.Author.Tests.{lt-ltb, le-ltb, ltb-true, ltb-false, leb-true, leb-false, le-leb, eqb-true, eqb-false, not-true, not-false}
 use lib.Dec.{T, ltb, leb, eqb}
-use lib.IntN.{ℤ}
+use lib.IntN.{ℤ, pos, negsuc}
 use lib.ListN.{length, getD}
-use lib.Signed.{ltZ-yes}
+use lib.Signed.{_<ℤ_, ltZ-yes}
 use Rattle.wire.specs.Answer.{Answer, accepted, refused, guard, andThen}
 use Rattle.wire.specs.Bytes.{beAt, part}
 use Rattle.wire.specs.Refusal.{notItsLayout, outOfRange, outputShort, noSuchChannel, malformed}
@@ -27,12 +27,13 @@ use Rattle.entries.specs.Entry.{entryIn, entryListed, entryOf, quantityIn, quan
 use Rattle.record.specs.Paper.{meansRecord}
 use Rattle.entries.specs.Paper.{meansCursor}
 use Rattle.writer.specs.Write.{writeJudged as writes, outputWritten, write, writeLeaves}
-use Rattle.gaps.specs.Limits.{runLimit}
+use Rattle.gaps.specs.Limits.{runLimit, mostNumber}
 use Rattle.gaps.specs.Channel as channel-of
-use Rattle.gaps.specs.Channel.{Event, tick, heartbeat, taken, tooLow}
+use Rattle.gaps.specs.Channel.{Event, tick, heartbeat, ArrivalSaid, beforeStart, natural, taken, tooLow, tooEarly}
+use Rattle.gaps.proofs.Alone as alone
 use Rattle.tracker.specs.declared.Tracker.{Tracker}
 use Rattle.seats.specs.Places.{channelLimit}
-use Rattle.seats.specs.Rules.{ascends}
+use Rattle.seats.specs.Rules.{ascends, isFirst, firstNumbers, channelsListed}
 use Rattle.tracker.specs.Rules.{wellFormed}
 use Rattle.tracker.specs.SetUp.{blankOf, Ready, setUpGives, setUp}
 use Rattle.tracker.specs.Arrived.{on, place as place-of, Outcome, settled, arrive}
@@ -41,12 +42,14 @@ use Rattle.tracker.specs.FirstRun.{Lost, lost, nothingMissing, foremost, firstR
 use Rattle.tracker.specs.Request as request
 use Rattle.tracker.specs.Request.{requestLength, roomForRequest, answerOf}
 use Rattle.tracker.proofs.Fitting.{request-length}
+use Rattle.tracker.proofs.Put.{kept-row, put-same}
+use Rattle.tracker.proofs.Seated.{well-row}
 use Rattle.demands.specs.Play.{channelOf}
 use Rattle.streams.specs.Stream.{Told}
 use Rattle.demands.proofs.Streams.{push-judged, end-judged}
 use Rattle.demands.proofs.Calls.{frame-read-as, stream-push-as, stream-end-as, read-frame-as, read-as, judge-as, group-of-as, entry-of-as, quantity-of-as, step-as, write-as, set-up-as, arrives-as, request-as}
-use Rattle.demands.specs.Rules.{_if_, Judged, success, later, OrNone, Kept}
-use Rattle.demands.specs.Conditions.{L, behindOf, fieldsEnd, groupsIn, entriesIn, quantitiesIn, leftIn, groupsCounted, entryCount, shownCount, entriesLeft, EntryLacks, EntryStrays, Falls, Keeps, NotIn, Low}
+use Rattle.demands.specs.Rules.{_if_, Judged, success, here, later, OrNone, Kept}
+use Rattle.demands.specs.Conditions.{L, behindOf, fieldsEnd, groupsIn, entriesIn, quantitiesIn, leftIn, groupsCounted, entryCount, shownCount, entriesLeft, EntryLacks, EntryStrays, Falls, NoFirst, Early, Keeps, NotIn, Low}
 use Rattle.demands.specs.Demand1.{pushRules, endRules, frameRules, bodyRules, readerRules, stepRules, writerRules, setUpRules, arrivalRules, requestRules}
 use Rattle.demands.specs.Receiver.{Demand1}
 use Rattle.demands.proofs.Checked.{checked}
@@ -290,35 +293,84 @@ unfolding ascends
 rises-by [] e f = omega (arith, f .inside)
 rises-by (n ∷ l) e f = rises-behind n l (and-both (leb 0 n) _ e .1) (f .place) (f .inside) (f .falls)
 
+-- a first number out of its range
+no-first : (z : ℤ) → isFirst (natural z) ≡ false → (z <ℤ pos 1) ⊎ (pos mostNumber <ℤ z)
+no-first (negsuc n) e = inl (ltZ-yes tt)
+no-first (pos n) e = go (leb 1 n) refl
+  where
+    go : (b : Bool) → leb 1 n ≡ b → (pos n <ℤ pos 1) ⊎ (pos mostNumber <ℤ pos n)
+    go true f = let g : leb n mostNumber ≡ false = rw f at e in inr (ltZ-yes (subst T (sym (lt-ltb mostNumber n (leb-false n mostNumber g))) tt))
+    go false f = inl (ltZ-yes (subst T (sym (lt-ltb n 1 (leb-false 1 n f))) tt))
+
+a-first : (z : ℤ) → isFirst (natural z) ≡ true → (z <ℤ pos 1) ⊎ (pos mostNumber <ℤ z) → ⊥
+a-first (negsuc n) e k = false≢true e
+a-first (pos n) e k =
+    let a = and-both (leb 1 n) _ e in
+    ⊎-elim
+    (λ l. subst T (le-ltb n 1 (leb-true 1 n (a .0))) (l .lt))
+    (λ l. subst T (le-ltb mostNumber n (leb-true n mostNumber (a .1))) (l .lt))
+    k
+
+firsts-by : (l : List ℤ) → firstNumbers l ≡ false → NoFirst l
+unfolding firstNumbers
+firsts-by [] e = absurd (true≢false e)
+firsts-by (z ∷ l) e = go (isFirst (natural z)) refl (λ d. firsts-by l d)
+  where
+    go : (b : Bool) → isFirst (natural z) ≡ b → (firstNumbers l ≡ false → NoFirst l) → NoFirst (z ∷ l)
+    go true f ih = let r = ih (rw f at e) in record { place = suc (r .place); inside = omega (arith, r .inside); out = r .out }
+    go false f ih = record { place = 0; inside = omega arith; out = no-first z f }
+
+first-in : (l : List ℤ) → firstNumbers l ≡ true → (i : ℕ) → i < length l → (getD l i (pos 0) <ℤ pos 1) ⊎ (pos mostNumber <ℤ getD l i (pos 0)) → ⊥
+unfolding firstNumbers
+first-in [] e i h k = omega arith
+first-in (z ∷ l) e zero h k = a-first z (and-both (isFirst (natural z)) _ e .0) k
+first-in (z ∷ l) e (suc i) h k = first-in l (and-both (isFirst (natural z)) _ e .1) i (omega arith) k
+
+firsts-all : (l : List ℤ) → firstNumbers l ≡ true → NoFirst l → ⊥
+firsts-all l e k = first-in l e (k .place) (k .inside) (k .out)
+
 given-alike : (a : Answer Tracker) → Alike a (setUpGives a .said)
 given-alike (accepted t) = both-accepted
 given-alike (refused n v) = both-refused
 
-given-same : (a : Answer Tracker) (n : ℕ) (vs : List ℕ) → setUpGives a .said ≡ refused n vs → setUpGives a .tracker ≡ blankOf []
+given-same : (a : Answer Tracker) (n : ℕ) (vs : List ℕ) → setUpGives a .said ≡ refused n vs → setUpGives a .tracker ≡ blankOf [] []
 given-same (accepted t) n vs e = let z : _≡_ {A = ℕ} 0 1 = cc in absurd (omega arith)
 given-same (refused m v) n vs e = refl
 
--- the set-up's tests
-abbrev tests : List ℕ → Answer Tracker
-tests numbers =
-    guard (eqb (length numbers) 0) (refused malformed [])
-    (guard (ltb channelLimit (length numbers)) (refused malformed [])
-    (guard (not (ascends 0 numbers)) (refused malformed []) (accepted (blankOf numbers))))
+-- two tests in one are one behind the other
+guard-both : {A : Type 0} (a b : Bool) (r x : Answer A) → guard (not (a && b)) r x ≡ guard (not a) r (guard (not b) r x)
+unfolding guard
+guard-both true b r x = refl
+guard-both false b r x = refl
 
-tests-judged : (numbers : List ℕ) → Judged (setUpRules numbers) (tests numbers)
-tests-judged numbers =
-    tested (eqb (length numbers) 0) (eqb-true (length numbers) 0) (eqb-false (length numbers) 0)
+-- the set-up's test
+abbrev tests : List ℕ → List ℤ → Answer Tracker
+tests numbers from = guard (not (channelsListed numbers from)) (refused malformed []) (accepted (blankOf numbers from))
+
+tests-judged : (numbers : List ℕ) (from : List ℤ) → Judged (setUpRules numbers from) (tests numbers from)
+unfolding channelsListed
+tests-judged numbers from =
+    let n = length numbers in
+    answered (guard-both (not (eqb n 0)) _ _ _)
+    (tested (not (not (eqb n 0))) (λ e. eqb-true n 0 (not-false _ (not-true _ e))) (λ e. eqb-false n 0 (not-true _ (not-false _ e)))
     (λ e.
-    tested (ltb channelLimit (length numbers)) (ltb-true channelLimit (length numbers)) (λ f. above (ltb-false channelLimit (length numbers) f))
+    answered (guard-both (not (ltb channelLimit n)) _ _ _)
+    (tested (not (not (ltb channelLimit n))) (λ f. ltb-true channelLimit n (not-false _ (not-true _ f)))
+    (λ f. above (ltb-false channelLimit n (not-true _ (not-false _ f))))
     (λ f.
-    tested (not (ascends 0 numbers)) (λ g. falls-by numbers (not-true _ g)) (λ g. rises-by numbers (not-false _ g)) (λ g. success)))
+    answered (guard-both (eqb n (length from)) _ _ _)
+    (tested (not (eqb n (length from))) (λ g. eqb-false n (length from) (not-true _ g)) (λ g d. d (eqb-true n (length from) (not-false _ g)))
+    (λ g.
+    answered (guard-both (ascends 0 numbers) _ _ _)
+    (tested (not (ascends 0 numbers)) (λ h. falls-by numbers (not-true _ h)) (λ h. rises-by numbers (not-false _ h))
+    (λ h. tested (not (firstNumbers from)) (λ i. firsts-by from (not-true _ i)) (λ i. firsts-all from (not-false _ i)) (λ i. success)))))))))
 
-pub started : (numbers : List ℕ) → Kept (setUpRules numbers) (setUp numbers .said) (blankOf []) (setUp numbers .tracker)
+pub started : (numbers : List ℕ) (from : List ℤ) → Kept (setUpRules numbers from) (setUp numbers from .said) (blankOf [] []) (setUp numbers from .tracker)
 unfolding setUp
-started numbers =
+started numbers from =
     record {
-      judged = alike (given-alike (tests numbers)) (tests-judged numbers);
-      same = λ n vs f. given-same (tests numbers) n vs f;
+      judged = alike (given-alike (tests numbers from)) (tests-judged numbers from);
+      same = λ n vs f. given-same (tests numbers from) n vs f;
     }
 
 breaks : (t : Tracker) → wellFormed t ≡ false → Keeps t → ⊥
@@ -343,6 +395,17 @@ low-no : (e : Event) → tooLow e ≡ false → Low e → ⊥
 low-no (tick z) h k = subst T h (k .lt)
 low-no (heartbeat z end) h k = subst T h (k .lt)
 
+-- below the first number, where 8 does not refuse it
+early-yes : (t : Tracker) (k : ℕ) (e : Event) → tooEarly (channelOf t k) e ≡ true → tooLow e ≡ false → Early t k e
+early-yes t k (tick (pos n)) h l = ltZ-yes (subst T (sym h) tt)
+early-yes t k (tick (negsuc n)) h l = absurd (true≢false l)
+early-yes t k (heartbeat z end) h l = absurd (false≢true h)
+
+early-no : (t : Tracker) (k : ℕ) (e : Event) → tooEarly (channelOf t k) e ≡ false → tooLow e ≡ false → Early t k e → ⊥
+early-no t k (tick (pos n)) h l x = subst T h (x .lt)
+early-no t k (tick (negsuc n)) h l x = absurd (true≢false l)
+early-no t k (heartbeat z end) h l x = x
+
 settled-alike : (t : Tracker) (i : ℕ) (a : Answer channel-of.Step) → Alike a (settled t i a .said)
 settled-alike t i (accepted s) = both-accepted
 settled-alike t i (refused n v) = both-refused
@@ -357,6 +420,14 @@ steps t k e =
     guard (not (wellFormed t)) (refused malformed [])
     (guard (not (ltb (place-of t k) (t .count))) (refused noSuchChannel []) (channel-of.judgeEvent (channelOf t k) e))
 
+-- a test that leads to an acceptance, before a last refusal
+passed : {A : Type 0} {P : Type 0} {n : ℕ} (x y : A) (a b : Bool) → (a ≡ true → P → ⊥) → (a ≡ false → b ≡ true → P) → (a ≡ false → b ≡ false → P → ⊥) →
+    Judged (n if P ∷ []) (guard a (accepted x) (guard b (refused n []) (accepted y)))
+unfolding guard
+passed x y true b p q r = later (p refl) success
+passed x y false true p q r = here (q refl refl)
+passed x y false false p q r = later (r refl refl) success
+
 steps-judged : (t : Tracker) (k : ℕ) (e : Event) → Judged (arrivalRules t k e) (steps t k e)
 unfolding channel-of.judgeEvent
 steps-judged t k e =
@@ -366,7 +437,11 @@ steps-judged t k e =
     tested (not (ltb (place-of t k) (t .count))) (λ b. not-in t k (not-true _ b)) (λ b. is-in t k (not-false _ b))
     (λ b.
     tested (tooLow e) (low-yes e) (low-no e)
-    (λ c. tested (ltb runLimit (length runs)) (ltb-true runLimit (length runs)) (λ d. above (ltb-false runLimit (length runs) d)) (λ d. success))))
+    (λ c.
+    passed (record { said = beforeStart; next = channelOf t k }) (taken (channelOf t k) e) (tooEarly (channelOf t k) e) (ltb runLimit (length runs))
+    (λ d x. x .0 (early-yes t k e d c))
+    (λ d f. (early-no t k e d c, ltb-true runLimit (length runs) f))
+    (λ d f x. above (ltb-false runLimit (length runs) f) (x .1)))))
 
 pub arrives : (t : Tracker) (k : ℕ) (e : Event) → Kept (arrivalRules t k e) (arrive t (on k e) .said) t (arrive t (on k e) .next)
 unfolding arrive
@@ -375,6 +450,49 @@ arrives t k e =
       judged = alike (settled-alike t (place-of t k) (steps t k e)) (steps-judged t k e);
       same = λ n vs f. settled-same t (place-of t k) (steps t k e) n vs f;
     }
+
+-- what is accepted is before start exactly where the tick is below the first number
+before-by : (t : Tracker) (k : ℕ) (e : Event) (x : ArrivalSaid) → settled t (place-of t k) (steps t k e) .said ≡ accepted x → (x ≡ beforeStart) ↔ Early t k e
+unfolding guard
+before-by t k e x = go (not (wellFormed t)) (not (ltb (place-of t k) (t .count))) (channel-of.judgeEvent (channelOf t k) e) (alone.judge (channelOf t k) e)
+  where
+    none : {n : ℕ} {v : List ℕ} → _≡_ {A = Answer ArrivalSaid} (refused n v) (accepted x) → ⊥
+    none q = let z : _≡_ {A = ℕ} 0 1 = cc in omega arith
+
+    go : (a b : Bool) (s : Answer channel-of.Step) → alone.Judged (channelOf t k) e s →
+        settled t (place-of t k) (guard a (refused malformed []) (guard b (refused noSuchChannel []) s)) .said ≡ accepted x → (x ≡ beforeStart) ↔ Early t k e
+    go true b s j q = absurd (none q)
+    go false true s j q = absurd (none q)
+    go false false s (alone.low p) q = absurd (none q)
+    go false false s (alone.early p d) q = (λ y. early-yes t k e d p, λ y. cc)
+    go false false s (alone.full p d r) q = absurd (none q)
+    go false false s (alone.took p d r) q = (λ y. absurd (alone.taken-apart (channelOf t k) e (cc)), λ y. absurd (early-no t k e d p y))
+
+-- and leaves the tracker as it stood
+stands-by : (t : Tracker) (k : ℕ) (e : Event) → settled t (place-of t k) (steps t k e) .said ≡ accepted beforeStart → settled t (place-of t k) (steps t k e) .next ≡ t
+unfolding guard
+stands-by t k e = go (wellFormed t) refl (ltb (place-of t k) (t .count)) refl (channel-of.judgeEvent (channelOf t k) e) (alone.judge (channelOf t k) e)
+  where
+    none : {n : ℕ} {v : List ℕ} → _≡_ {A = Answer ArrivalSaid} (refused n v) (accepted beforeStart) → ⊥
+    none q = let z : _≡_ {A = ℕ} 0 1 = cc in omega arith
+
+    go : (a : Bool) → wellFormed t ≡ a → (b : Bool) → ltb (place-of t k) (t .count) ≡ b → (s : Answer channel-of.Step) → alone.Judged (channelOf t k) e s →
+        settled t (place-of t k) (guard (not a) (refused malformed []) (guard (not b) (refused noSuchChannel []) s)) .said ≡ accepted beforeStart →
+        settled t (place-of t k) (guard (not a) (refused malformed []) (guard (not b) (refused noSuchChannel []) s)) .next ≡ t
+    go false f b g s j q = absurd (none q)
+    go true f false g s j q = absurd (none q)
+    go true f true g s (alone.low p) q = absurd (none q)
+    go true f true g s (alone.early p d) q = put-same t (place-of t k) (kept-row (well-row t f (place-of t k) (ltb-true (place-of t k) (t .count) g)))
+    go true f true g s (alone.full p d r) q = absurd (none q)
+    go true f true g s (alone.took p d r) q = absurd (alone.taken-apart (channelOf t k) e (cc))
+
+pub before : (t : Tracker) (k : ℕ) (e : Event) → OrNone (arrivalRules t k e) beforeStart (Early t k e) (arrive t (on k e) .said)
+unfolding arrive
+before t k e = record { judged = alike (settled-alike t (place-of t k) (steps t k e)) (steps-judged t k e); none-when = before-by t k e }
+
+pub before-leaves : (t : Tracker) (k : ℕ) (e : Event) → arrive t (on k e) .said ≡ accepted beforeStart → arrive t (on k e) .next ≡ t
+unfolding arrive
+before-leaves t k e q = stands-by t k e q
 
 -- ---- the request
 
@@ -497,9 +615,12 @@ demand1 =
       quantity-of = λ type b i j r c. rw (quantity-of-as c) (quantity-asked type b i j);
       step = λ type b c r e. rw (step-as e) (stepped type b (meansCursor c));
       write = λ x ts gs out after r c. rw (write-as c .answers, write-as c .leaves) (written (meansRecord x) ts gs out);
-      set-up = λ numbers r c. every (λ (a : Ready). Kept (setUpRules numbers) (a .said) (blankOf []) (a .tracker)) (set-up-as c) (started numbers);
+      set-up = λ numbers from r c. every (λ (a : Ready). Kept (setUpRules numbers from) (a .said) (blankOf [] []) (a .tracker)) (set-up-as c) (started numbers from);
       zero-breaks = λ k. omega (arith, k .one);
       arrival = λ t k e r c. every (λ (a : Outcome). Kept (arrivalRules t k e) (a .said) t (a .next)) (arrives-as c) (arrives t k e);
+      before-start = λ t k e r c. every (λ (a : Outcome). OrNone (arrivalRules t k e) beforeStart (Early t k e) (a .said)) (arrives-as c) (before t k e);
+      before-stands = λ t k e r c q.
+          ap (λ (o : Outcome). o .next) (arrives-as c) ∙ before-leaves t k e (sym (ap (λ (o : Outcome). o .said) (arrives-as c)) ∙ q);
       request = λ t k out after r c. rw (request-as c .answers, request-as c .leaves) (asked t k out);
       none-missing = λ t k out after r c. rw (request-as c .answers) (asked-or-none t k out);
       none-written = λ t k out after r c e. request-as c .leaves ∙ nothing-written t k out (sym (request-as c .answers) ∙ e);

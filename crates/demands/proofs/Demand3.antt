@@ -6,105 +6,137 @@ use mathlib.Core.Logic.{_↔_}
 use mathlib.Core.List.{List, [], _∷_, List·Permᴰ, List·Permᴰ·nil, List·Permᴰ·cons, List·Permᴰ·swap, List·Permᴰ·trans, Permᴰ·refl, List·Memᴰ}
 use mathlib.Core.Bool.{Bool, true, false, cond, not}
 use lib.Dec.{eqb, ltb}
-use lib.IntN.{pos}
-use lib.ListN.{length, replicate, length-replicate, getD-replicate}
+use lib.IntN.{ℤ, pos}
+use lib.ListN.{length, getD, length-map}
 use lib.Seq.{ext-getD}
-use borrow.Author.Tests.{eqb-false, ltb-false, not-false, le-ltb}
+use borrow.Author.Tests.{eqb-true, eqb-false, ltb-false, not-true, le-ltb}
 use Rattle.wire.specs.Answer.{Answer, accepted, refused, guard}
 use Rattle.wire.specs.Refusal.{tableFull, noSuchChannel, malformed}
-use Rattle.gaps.specs.Channel.{Channel, fresh, Event, tick, ArrivalSaid, new, late, duplicate, heard, Step, judgeEvent, tooLow, heartbeat, announced}
+use Rattle.gaps.specs.Channel.{Channel, fresh, Event, tick, ArrivalSaid, new, late, duplicate, heard, beforeStart, Step, judgeEvent, natural, tooLow, heartbeat, announced}
+use Rattle.gaps.specs.Limits.{mostNumber}
+use Rattle.gaps.proofs.Numbers.{and-split}
+use Rattle.gaps.proofs.Signed.{natural-one}
 use Rattle.gaps.proofs.Exact.{Exact, forms}
 use Rattle.gaps.proofs.Alone as alone
-use Rattle.gaps.proofs.Alone.{Judged, judge, words, play, answers, history, exact, nine, says-new, says-late, says-duplicate, Never}
+use Rattle.gaps.proofs.Alone.{Judged, judge, words, play, answers, history, exact, nine, says-before, says-new, says-late, says-duplicate, Never}
 use Rattle.tracker.specs.declared.Tracker.{Tracker}
 use Rattle.tracker.specs.declared.Start.the-variants.{SetUp}
 use Rattle.tracker.specs.declared.Reply.{Reply}
 use Rattle.tracker.specs.Places.{channelAt}
-use Rattle.seats.specs.Rules.{ascends}
-use Rattle.tracker.specs.SetUp.{blankOf, setUp, Ready, setUpGives, setUpSaid as beganOf}
+use Rattle.seats.specs.Rules.{ascends, firstNumbers, channelsListed}
+use Rattle.tracker.specs.SetUp.{blankOf, setUp, Ready, setUpSaid as beganOf, meansStarted}
 use Rattle.tracker.specs.Arrived.{Arrival, on, place, Outcome, settled, arrive, arrivalSaid, meansReply}
 use Rattle.tracker.specs.Rules.{wellFormed}
+use Rattle.tracker.proofs.Begin.{set-up-listed, set-up-refused}
 use Rattle.tracker.proofs.Seated.{arrived-at}
 use Rattle.tracker.proofs.Unique.{named}
-use Rattle.tracker.proofs.Holder.{holder, at, holder-channel, holder-start, holder-well, Listed}
+use Rattle.tracker.proofs.Holder.{holder, at, start, start-at, first-at, holder-channel, holder-start, holder-well, Listed}
 use Rattle.demands.specs.Play.{Fresh, Turn, turn, Play, arrivals, only, answersTo, ifAccepted, historyOf, NeverFull, Has, channelOf, startOf, done, step}
-use Rattle.demands.specs.Demand3.{HoldsItsList, TwoOrders, GapsFromHistory, MarksFromHistory, NineFromHistory, TickFromHistory, HeartbeatFromHistory, OthersRemoved, EverySetUpGives, EveryListPlays}
+use Rattle.demands.specs.Demand3.{HoldsItsList, HoldsItsFirsts, TwoOrders, GapsFromHistory, MarksFromHistory, NineFromHistory, TickFromHistory, HeartbeatFromHistory, OthersRemoved, EverySetUpGives, EveryListPlays}
 use Rattle.demands.proofs.Calls.{set-up-as, arrives-as, sets-up, arrives}
-use Rattle.demands.proofs.Played.{seat, seat-listed, seat-same, seat-test, eventsAt, answersAt, Ends, ends as played, known-fresh, all-good}
+use Rattle.demands.proofs.Played.{AllKnown, seat, seat-listed, seat-number, seat-same, seat-test, eventsAt, answersAt, Ends, ends as played, known-fresh, all-good}
 
 -- ---- a fresh record
 
 -- what a set-up that is not refused took, and gave
-record Took (numbers : List ℕ) (t : Tracker) : Type 0 where
+record Took (numbers : List ℕ) (from : List ℤ) (t : Tracker) : Type 0 where
   listed : Listed numbers
-  gave : t ≡ blankOf numbers
+  even : length numbers ≡ length from
+  firsts : firstNumbers from ≡ true
+  gave : t ≡ blankOf numbers from
 
-took : (numbers : List ℕ) (t : Tracker) → Fresh numbers t → Took numbers t
-unfolding setUp guard
-took numbers t f = go (eqb (length numbers) 0) refl (ltb 8 (length numbers)) refl (not (ascends 0 numbers)) refl said gave
+took : (numbers : List ℕ) (from : List ℤ) (t : Tracker) → Fresh numbers from t → Took numbers from t
+unfolding channelsListed
+took numbers from t f = go (channelsListed numbers from) refl
   where
-    answer : Bool → Bool → Bool → Answer Tracker
-    answer x y z = guard x (refused malformed []) (guard y (refused malformed []) (guard z (refused malformed []) (accepted (blankOf numbers))))
+    ready : meansStarted (f .answer) ≡ setUp numbers from
+    ready = set-up-as (f .promise)
 
-    said : setUpGives (answer (eqb (length numbers) 0) (ltb 8 (length numbers)) (not (ascends 0 numbers))) .said ≡ accepted tt
-    said = sym (ap (λ (r : Ready). r .said) (set-up-as (f .promise))) ∙ ap beganOf (f .ready)
+    none : _≡_ {A = Answer Unit} (accepted tt) (refused malformed []) → ⊥
+    none e = let z : _≡_ {A = ℕ} 0 1 = cc in omega arith
 
-    gave : t ≡ setUpGives (answer (eqb (length numbers) 0) (ltb 8 (length numbers)) (not (ascends 0 numbers))) .tracker
-    gave = sym (f .gave) ∙ ap (λ (r : Ready). r .tracker) (set-up-as (f .promise))
-
-    none : (n : ℕ) (v : List ℕ) → _≡_ {A = Answer Unit} (refused n v) (accepted tt) → ⊥
-    none n v e = let z : _≡_ {A = ℕ} 0 1 = cc in omega arith
-
-    go : (x : Bool) → eqb (length numbers) 0 ≡ x → (y : Bool) → ltb 8 (length numbers) ≡ y → (z : Bool) → not (ascends 0 numbers) ≡ z →
-        setUpGives (answer x y z) .said ≡ accepted tt → t ≡ setUpGives (answer x y z) .tracker → Took numbers t
-    go true a y b z c s g = absurd (none _ _ s)
-    go false a true b z c s g = absurd (none _ _ s)
-    go false a false b true c s g = absurd (none _ _ s)
-    go false a false b false c s g =
+    go : (b : Bool) → channelsListed numbers from ≡ b → Took numbers from t
+    go true e =
+        let a = and-split (not (eqb (length numbers) 0)) _ e in
+        let b = and-split (not (ltb 8 (length numbers))) _ (a .1) in
+        let c = and-split (eqb (length numbers) (length from)) _ (b .1) in
+        let d = and-split (ascends 0 numbers) _ (c .1) in
         record {
-          listed = record { some = omega (arith, eqb-false (length numbers) 0 a); most = ltb-false 8 (length numbers) b; order = not-false (ascends 0 numbers) c };
-          gave = g;
+          listed = record {
+            some = omega (arith, eqb-false (length numbers) 0 (not-true _ (a .0)));
+            most = ltb-false 8 (length numbers) (not-true _ (b .0));
+            order = d .0;
+          };
+          even = eqb-true (length numbers) (length from) (c .0);
+          firsts = d .1;
+          gave = sym (f .gave) ∙ ap (λ (r : Ready). r .tracker) (ready ∙ set-up-listed numbers from e);
         }
+    go false e = absurd (none (sym (ap beganOf (f .ready)) ∙ ap (λ (r : Ready). r .said) (ready ∙ set-up-refused numbers from e)))
 
 -- ---- the playing as a whole
 
-abbrev start : List ℕ → List Channel
-start ns = replicate (length ns) (fresh 1)
+-- the first number at place j
+abbrev first : List ℤ → ℕ → ℕ
+first fs j = natural (getD fs j (pos 0))
 
-module _ (ns : List ℕ) (t u : Tracker) (l : List Turn) (f : Fresh ns t) (p : Play t l u) where
+module _ (ns : List ℕ) (fs : List ℤ) (t : Tracker) (f : Fresh ns fs t) where
   listed : Listed ns
-  listed = took ns t f .listed
+  listed = took ns fs t f .listed
 
-  began : t ≡ holder ns (start ns)
-  began = took ns t f .gave ∙ holder-start ns (listed .most)
+  even : length fs ≡ length ns
+  even = sym (took ns fs t f .even)
 
-  start-at : (j : ℕ) → j < length ns → at (start ns) j ≡ fresh 1
-  start-at j h = getD-replicate (length ns) j (fresh 1) (fresh 1) h
+  range : (j : ℕ) → j < length ns → (1 ≤ first fs j) × (first fs j ≤ mostNumber)
+  range j h = first-at fs j (took ns fs t f .firsts) (omega (arith, even))
 
-  final : Ends ns (start ns) l u
-  final = played ns listed p (start ns) began (length-replicate (length ns) (fresh 1)) (λ j h. rw (start-at j (rw (length-replicate (length ns) (fresh 1)) at h)) known-fresh)
+  began : t ≡ holder ns (start fs)
+  began = took ns fs t f .gave ∙ holder-start ns fs (omega (arith, even, listed .most))
+
+  starts : (j : ℕ) → j < length ns → at (start fs) j ≡ fresh (first fs j)
+  starts j h = start-at fs j (omega (arith, even))
+
+  size : length (start fs) ≡ length ns
+  size = length-map fs (λ (z : ℤ). fresh (natural z)) ∙ even
+
+  known : AllKnown (start fs)
+  known j h = let m : j < length ns = omega (arith, size) in rw (starts j m) (known-fresh (first fs j) (range j m .0) (range j m .1))
+
+  module _ (k : ℕ) (h : Has t k) where
+    seated : seat ns k < length ns
+    seated = let g : place (holder ns (start fs)) k < length ns = rw began at h in rw (seat-same ns (start fs) k) at g
+
+    place-first : place t k ≡ seat ns k
+    place-first = ap (λ (x : Tracker). place x k) began ∙ seat-same ns (start fs) k
+
+    -- the channel's first number is the one that came with it
+    first-is : startOf t k ≡ first fs (seat ns k)
+    first-is =
+        ap (λ (i : ℕ). channelAt t i .from) place-first
+        ∙ ap (λ (x : Tracker). channelAt x (seat ns k) .from) began
+        ∙ ap (λ (c : Channel). c .from) (holder-channel ns (start fs) (all-good (start fs) known) (seat ns k) (omega (arith, size, seated)) ∙ starts (seat ns k) seated)
+
+module _ (ns : List ℕ) (fs : List ℤ) (t u : Tracker) (l : List Turn) (f : Fresh ns fs t) (p : Play t l u) where
+  final : Ends ns (start fs) l u
+  final = played ns (listed ns fs t f) p (start fs) (began ns fs t f) (size ns fs t f) (known ns fs t f)
 
   events : ℕ → List Event
   events j = eventsAt ns j (arrivals l)
 
-  mine : (j : ℕ) → j < length ns → at (final .rows) j ≡ play (fresh 1) (eventsAt ns j (arrivals l))
-  mine j h = final .mine j h ∙ ap (λ (c : Channel). play c (eventsAt ns j (arrivals l))) (start-at j h)
+  mine : (j : ℕ) → j < length ns → at (final .rows) j ≡ play (fresh (first fs j)) (eventsAt ns j (arrivals l))
+  mine j h = final .mine j h ∙ ap (λ (c : Channel). play c (eventsAt ns j (arrivals l))) (starts ns fs t f j h)
 
-  told-at : (j : ℕ) → j < length ns → answersAt ns j l ≡ answers (fresh 1) (eventsAt ns j (arrivals l))
-  told-at j h = final .said j h ∙ ap (λ (c : Channel). answers c (eventsAt ns j (arrivals l))) (start-at j h)
+  told-at : (j : ℕ) → j < length ns → answersAt ns j l ≡ answers (fresh (first fs j)) (eventsAt ns j (arrivals l))
+  told-at j h = final .said j h ∙ ap (λ (c : Channel). answers c (eventsAt ns j (arrivals l))) (starts ns fs t f j h)
 
   module _ (k : ℕ) (h : Has t k) where
-    seated : seat ns k < length ns
-    seated = let g : place (holder ns (start ns)) k < length ns = rw began at h in rw (seat-same ns (start ns) k) at g
-
     place-last : place u k ≡ seat ns k
     place-last = ap (λ (x : Tracker). place x k) (final .last) ∙ seat-same ns (final .rows) k
 
     row-last : channelAt u (seat ns k) ≡ at (final .rows) (seat ns k)
-    row-last = ap (λ (x : Tracker). channelAt x (seat ns k)) (final .last) ∙ (holder-channel ns (final .rows) (all-good (final .rows) (final .known)) (seat ns k) (omega (arith, final .size, seated)))
+    row-last = ap (λ (x : Tracker). channelAt x (seat ns k)) (final .last) ∙ (holder-channel ns (final .rows) (all-good (final .rows) (final .known)) (seat ns k) (omega (arith, final .size, seated ns fs t f k h)))
 
-    record-last : channelOf u k ≡ play (fresh 1) (eventsAt ns (seat ns k) (arrivals l))
-    record-last = rw place-last (row-last ∙ mine (seat ns k) seated)
+    record-last : channelOf u k ≡ play (fresh (first fs (seat ns k))) (eventsAt ns (seat ns k) (arrivals l))
+    record-last = rw place-last (row-last ∙ mine (seat ns k) (seated ns fs t f k h))
 
 -- ---- the channel's own events, answers and history
 
@@ -152,23 +184,24 @@ module _ (ns : List ℕ) (k : ℕ) (h : seat ns k < length ns) where
 
 -- ---- a channel after a playing
 
-pub record View (ns : List ℕ) (t u : Tracker) (l : List Turn) (k : ℕ) : Type 0 where
+pub record View (t u : Tracker) (l : List Turn) (k : ℕ) : Type 0 where
   pub right : Exact (startOf t k) (channelOf u k) (historyOf k l)
   pub size : length (channelOf u k .runs) ≤ 32
   pub answer : (e : Event) (r : Reply) → meansReply r ≡ arrive u (on k e) → arrivalSaid (r .verdict) ≡ words (judgeEvent (channelOf u k) e)
 
-pub view : (ns : List ℕ) (t u : Tracker) (l : List Turn) → Fresh ns t → Play t l u → (k : ℕ) → Has t k → View ns t u l k
-view ns t u l f p k h =
-    let s = seated ns t u l f p k h in
-    let e = final ns t u l f p in
-    let m = record-last ns t u l f p k h in
-    let d : historyOf k l ≡ history (fresh 1) (eventsAt ns (seat ns k) (arrivals l)) =
-    history-sift ns k s l ∙ ap (sift ns k s (eventsAt ns (seat ns k) (arrivals l))) (told-at ns t u l f p (seat ns k) s) ∙ sift-answers ns k s (fresh 1) (eventsAt ns (seat ns k) (arrivals l)) in
+pub view : (ns : List ℕ) (fs : List ℤ) (t u : Tracker) (l : List Turn) → Fresh ns fs t → Play t l u → (k : ℕ) → Has t k → View t u l k
+view ns fs t u l f p k h =
+    let s = seated ns fs t f k h in
+    let e = final ns fs t u l f p in
+    let m = record-last ns fs t u l f p k h in
+    let c = fresh (first fs (seat ns k)) in
+    let d : historyOf k l ≡ history c (eventsAt ns (seat ns k) (arrivals l)) =
+    history-sift ns k s l ∙ ap (sift ns k s (eventsAt ns (seat ns k) (arrivals l))) (told-at ns fs t u l f p (seat ns k) s) ∙ sift-answers ns k s c (eventsAt ns (seat ns k) (arrivals l)) in
     let g : seat ns k < length (e .rows) = omega (arith, e .size, s) in
-    let z : channelOf u k ≡ at (e .rows) (seat ns k) = ap (channelAt u) (place-last ns t u l f p k h) ∙ row-last ns t u l f p k h in
+    let z : channelOf u k ≡ at (e .rows) (seat ns k) = ap (channelAt u) (place-last ns fs t u l f p k h) ∙ row-last ns fs t u l f p k h in
     record {
-      right = subst (λ (c : Channel). Exact 1 c (historyOf k l)) (sym m) (rw d (exact 1 (omega arith) (eventsAt ns (seat ns k) (arrivals l))));
-      size = subst (λ (c : Channel). length (c .runs) ≤ 32) (sym z) (e .known (seat ns k) g .size);
+      right = rw (first-is ns fs t f k h) (subst (λ (x : Channel). Exact (first fs (seat ns k)) x (historyOf k l)) (sym m) (rw d (exact (first fs (seat ns k)) (range ns fs t f (seat ns k) s .0) (eventsAt ns (seat ns k) (arrivals l)))));
+      size = subst (λ (x : Channel). length (x .runs) ≤ 32) (sym z) (e .known (seat ns k) g .size);
       answer = λ x r q. ap (λ (o : Outcome). o .said) (q ∙ at-last x) ∙ settled-said (judgeEvent (channelOf u k) x);
     }
   where
@@ -178,56 +211,68 @@ view ns t u l f p k h =
 
     at-last : (x : Event) → arrive u (on k x) ≡ settled u (place u k) (judgeEvent (channelOf u k) x)
     at-last x =
-        let s = seated ns t u l f p k h in
-        let e = final ns t u l f p in
+        let s = seated ns fs t f k h in
+        let e = final ns fs t u l f p in
         arrived-at u k x
-        (rw (e .last) (holder-well ns (e .rows) (listed ns t u l f p) (e .size) (all-good (e .rows) (e .known))))
-        (rw (place-last ns t u l f p k h, e .last) s)
+        (rw (e .last) (holder-well ns (e .rows) (listed ns fs t f) (e .size) (all-good (e .rows) (e .known))))
+        (rw (place-last ns fs t u l f p k h, e .last) s)
 
 -- ---- the statements
 
 pub holds-its-list : HoldsItsList
-holds-its-list ns t f k =
-    let b = took ns t f .gave ∙ holder-start ns (took ns t f .listed .most) in
-    let e : Has (holder ns (start ns)) k ↔ List·Memᴰ k ns = rw (seat-same ns (start ns) k) (seat-listed ns k) in
-    rw b e
+holds-its-list ns fs t f k =
+    let e : Has (holder ns (start fs)) k ↔ List·Memᴰ k ns = rw (seat-same ns (start fs) k) (seat-listed ns k) in
+    rw (began ns fs t f) e
+
+pub holds-its-firsts : HoldsItsFirsts
+holds-its-firsts ns fs t f k h =
+    let s = seated ns fs t f k h in
+    let i = place-first ns fs t f k h in
+    let one = range ns fs t f (seat ns k) s .0 in (
+      ap (λ (j : ℕ). getD ns j 0) i ∙ seat-number ns k s,
+      ap pos (first-is ns fs t f k h) ∙ sym (natural-one (getD fs (seat ns k) (pos 0)) one) ∙ sym (ap (λ (j : ℕ). getD fs j (pos 0)) i),
+    )
 
 pub gaps-from-history : GapsFromHistory
-gaps-from-history ns t u l f p k h n = forms (view ns t u l f p k h .right) .same n
+gaps-from-history ns fs t u l f p k h n = forms (view ns fs t u l f p k h .right) .same n
 
 pub marks-from-history : MarksFromHistory
-marks-from-history ns t u l f p k h = let x = view ns t u l f p k h .right in (x .own, x .tops, x .marks)
+marks-from-history ns fs t u l f p k h = let x = view ns fs t u l f p k h .right in (x .own, x .tops, x .marks)
 
 pub nine-from-history : NineFromHistory
-nine-from-history ns t u l f p k h e r low q =
-    let v = view ns t u l f p k h in
-    rw (v .answer e r (arrives-as q)) (nine 1 (channelOf u k) (historyOf k l) (v .right) e low)
+nine-from-history ns fs t u l f p k h e r low q =
+    let v = view ns fs t u l f p k h in
+    rw (v .answer e r (arrives-as q)) (nine (startOf t k) (channelOf u k) (historyOf k l) (v .right) (v .size) e low)
 
 pub tick-from-history : TickFromHistory
-tick-from-history ns t u l f p k h n r s q =
-    let v = view ns t u l f p k h in
+tick-from-history ns fs t u l f p k h n r s q =
+    let v = view ns fs t u l f p k h in
     let low : tooLow (tick (pos n)) ≡ false = le-ltb n 1 s in
     let c = channelOf u k in
     let g = historyOf k l in
+    let b : (words (judgeEvent c (tick (pos n))) ≡ accepted beforeStart) ↔ (n < startOf t k) = rw (sym (v .right .own)) (says-before c n low) in
     rw (v .answer (tick (pos n)) r (arrives-as q))
-    (says-new 1 c g (v .right) n low, says-late 1 c g (v .right) n low s, says-duplicate 1 c g (v .right) n low s (v .size))
+    (b, says-new (startOf t k) c g (v .right) (v .size) n low, says-late (startOf t k) c g (v .right) (v .size) n low, says-duplicate (startOf t k) c g (v .right) (v .size) n low)
 
 pub heartbeat-from-history : HeartbeatFromHistory
 unfolding announced
-heartbeat-from-history ns t u l f p k h m end r q =
-    let v = view ns t u l f p k h in
+heartbeat-from-history ns fs t u l f p k h m end r q =
+    let v = view ns fs t u l f p k h in
     let e = heartbeat (pos m) end in
     let low : tooLow e ≡ false = le-ltb m 0 zero-le in
-    rw (v .answer e r (arrives-as q))
-    (λ w. alone.accepted-says 1 (channelOf u k) (historyOf k l) (v .right) e heard w .1, λ w. alone.accepts 1 (channelOf u k) (historyOf k l) (v .right) e low w)
+    rw (v .answer e r (arrives-as q)) (
+      λ w. alone.accepted-says (startOf t k) (channelOf u k) (historyOf k l) (v .right) (v .size) e heard (λ d. let z : _≡_ {A = ℕ} 0 1 = cc in omega arith) w .2,
+      λ w. alone.accepts (startOf t k) (channelOf u k) (historyOf k l) (v .right) (v .size) e low refl w,
+    )
 
 pub others-removed : OthersRemoved
-others-removed ns t u v l m f p q k h e =
-    let s = seated ns t u l f p k h in
+others-removed ns fs t u v l m f p q k h e =
+    let s = seated ns fs t f k h in
     let i = seat ns k in
+    let c = fresh (first fs i) in
     let d : eventsAt ns i (arrivals m) ≡ eventsAt ns i (arrivals l) = ap (eventsAt ns i) e ∙ only-events ns k s (arrivals l) in (
-      record-last ns t v m f q k h ∙ ap (play (fresh 1)) d ∙ sym (record-last ns t u l f p k h),
-      answers-to ns k s m ∙ told-at ns t v m f q i s ∙ ap (answers (fresh 1)) d ∙ sym (answers-to ns k s l ∙ told-at ns t u l f p i s),
+      record-last ns fs t v m f q k h ∙ ap (play c) d ∙ sym (record-last ns fs t u l f p k h),
+      answers-to ns k s m ∙ told-at ns fs t v m f q i s ∙ ap (answers c) d ∙ sym (answers-to ns k s l ∙ told-at ns fs t u l f p i s),
     )
 
 events-perm : (ns : List ℕ) (j : ℕ) {l m : List Arrival} → List·Permᴰ l m → List·Permᴰ (eventsAt ns j l) (eventsAt ns j m)
@@ -255,19 +300,19 @@ never-at ns j (x ∷ l) f = go (eqb (seat ns (x .arrival .channel)) j) (never-at
     go false n = n
 
 pub two-orders : TwoOrders
-two-orders ns t u v l m f p q e a b =
-    let x = final ns t u l f p in
-    let y = final ns t v m f q in
+two-orders ns fs t u v l m f p q e a b =
+    let x = final ns fs t u l f p in
+    let y = final ns fs t v m f q in
     let same : x .rows ≡ y .rows = ext-getD (fresh 1) (x .rows) (y .rows) (x .size ∙ sym (y .size)) (λ j h. row j (rw (x .size) at h)) in
     x .last ∙ ap (holder ns) same ∙ sym (y .last)
   where
-    row : (j : ℕ) → j < length ns → at (final ns t u l f p .rows) j ≡ at (final ns t v m f q .rows) j
+    row : (j : ℕ) → j < length ns → at (final ns fs t u l f p .rows) j ≡ at (final ns fs t v m f q .rows) j
     row j h =
-        mine ns t u l f p j h
-        ∙ alone.orders 1 (omega arith) (eventsAt ns j (arrivals l)) (eventsAt ns j (arrivals m)) (events-perm ns j e)
-        (subst (Never (refused tableFull [])) (told-at ns t u l f p j h) (never-at ns j l a))
-        (subst (Never (refused tableFull [])) (told-at ns t v m f q j h) (never-at ns j m b))
-        ∙ sym (mine ns t v m f q j h)
+        mine ns fs t u l f p j h
+        ∙ alone.orders (first fs j) (range ns fs t f j h .0) (eventsAt ns j (arrivals l)) (eventsAt ns j (arrivals m)) (events-perm ns j e)
+        (subst (Never (refused tableFull [])) (told-at ns fs t u l f p j h) (never-at ns j l a))
+        (subst (Never (refused tableFull [])) (told-at ns fs t v m f q j h) (never-at ns j m b))
+        ∙ sym (mine ns fs t v m f q j h)
 
 -- ---- every set-up gives a fresh record, and every list plays
 
@@ -275,10 +320,10 @@ abbrev ready : Answer Unit → Tracker → Ready
 ready v t = record { said = v; tracker = t }
 
 pub every-set-up-gives : EverySetUpGives
-every-set-up-gives numbers e =
-    let x = setUp numbers in
+every-set-up-gives numbers from e =
+    let x = setUp numbers from in
     let y : ready (accepted tt) (x .tracker) ≡ ready (x .said) (x .tracker) = rw e in
-    record { answer = record { verdict = SetUp; tracker = x .tracker }; promise = sets-up numbers (record { verdict = SetUp; tracker = x .tracker }) y; ready = refl; gave = refl }
+    record { answer = record { verdict = SetUp; tracker = x .tracker }; promise = sets-up numbers from (record { verdict = SetUp; tracker = x .tracker }) y; ready = refl; gave = refl }
 
 -- the word that an arrival is answered is one of the code's
 pub answer-named : (t : Tracker) (a : Arrival) → arrivalSaid (named (arrive t a .said)) ≡ arrive t a .said
@@ -293,14 +338,16 @@ answer-named t a = go (not (wellFormed t)) (not (ltb i (t .count))) (judgeEvent 
     word late = refl
     word duplicate = refl
     word heard = refl
+    word beforeStart = refl
 
     go : (x y : Bool) (z : Answer Step) → Judged (channelAt t i) (a .event) z →
         arrivalSaid (named (settled t i (guard x (refused malformed []) (guard y (refused noSuchChannel []) z)) .said)) ≡ settled t i (guard x (refused malformed []) (guard y (refused noSuchChannel []) z)) .said
     go true y z j = refl
     go false true z j = refl
     go false false z (alone.low p) = refl
-    go false false z (alone.full p q) = refl
-    go false false z (alone.took p q) = word _
+    go false false z (alone.early p s) = refl
+    go false false z (alone.full p s q) = refl
+    go false false z (alone.took p s q) = word _
 
 abbrev pub outcome : Answer ArrivalSaid → Tracker → Outcome
 outcome v t = record { said = v; next = t }

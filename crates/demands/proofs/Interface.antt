@@ -28,7 +28,7 @@ use Rattle.writer.specs.Write as writing
 use Rattle.tracker.specs.declared.Tracker.{Tracker}
 use Rattle.tracker.specs.declared.Reply.{Reply}
 use Rattle.tracker.specs.SetUp.{setUp}
-use Rattle.gaps.specs.Channel.{ArrivalSaid, new, late, duplicate, heard}
+use Rattle.gaps.specs.Channel.{ArrivalSaid, new, late, duplicate, heard, beforeStart}
 use Rattle.tracker.specs.Arrived.{Arrival, Outcome, arrive, arrivalSaid}
 use Rattle.tracker.specs.Request as asking
 use Rattle.tracker.proofs.Unique as tracker
@@ -146,6 +146,7 @@ said-no new = inl refl
 said-no late = inr (omega arith)
 said-no duplicate = inr (omega arith)
 said-no heard = inl refl
+said-no beforeStart = inr (omega arith)
 
 request-no : (x : asking.RequestSaid) → NoRefusal (requestAnswer (accepted x) .answer)
 unfolding requestAnswer
@@ -244,9 +245,9 @@ refusals =
         number = told-as (step-price-from h .0) (found-number (step (named type) b (meansCursor at)) (stepped type b (meansCursor at) .judged));
         same = λ k. step-price-from h .1 ∙ priced-left (entryFound (step (named type) b (meansCursor at))) z (λ e. k (step-price-from h .0 ∙ e));
       };
-      set-up = λ numbers r h. record {
-        number = told-as (ap (λ (x : StartAnswer). x .answer) (set-up-from h)) (number-by answerNumber (λ x. inl refl) (λ n vs. refl) (started numbers .judged));
-        same = λ k. ap (λ (x : StartAnswer). x .tracker) (set-up-from h) ∙ plain-left (setUp numbers .said) (started numbers) (λ e. k (ap (λ (x : StartAnswer). x .answer) (set-up-from h) ∙ e));
+      set-up = λ numbers from r h. record {
+        number = told-as (ap (λ (x : StartAnswer). x .answer) (set-up-from h)) (number-by answerNumber (λ x. inl refl) (λ n vs. refl) (started numbers from .judged));
+        same = λ k. ap (λ (x : StartAnswer). x .tracker) (set-up-from h) ∙ plain-left (setUp numbers from .said) (started numbers from) (λ e. k (ap (λ (x : StartAnswer). x .answer) (set-up-from h) ∙ e));
       };
       arrival = λ t a n u h. record {
         number = told-as (ap (λ (x : Arrived). x .answer) (arrives-from h)) (number-by saidNumber said-no (λ n vs. refl) (judging.arrives t (a .channel) (a .event) .judged));
@@ -283,7 +284,7 @@ same-answers =
       cursor = λ type b r a h p. cursor-from h ∙ sym (start-as p);
       next = λ at type b z r left a h p. (next-from h .0 ∙ ap (λ x. stepAnswer x at) (sym (step-as p)), next-from h .1 ∙ ap (λ x. pricedLeft (entryFound x) z) (sym (step-as p)));
       step-price = λ at type b z n left a h p. (step-price-from h .0 ∙ ap (λ x. pricing (entryFound x)) (sym (step-as p)), step-price-from h .1 ∙ ap (λ x. pricedLeft (entryFound x) z) (sym (step-as p)));
-      set-up = λ numbers r a h p. set-up-from h ∙ ap startAnswer (sym (set-up-as p));
+      set-up = λ numbers from r a h p. set-up-from h ∙ ap startAnswer (sym (set-up-as p));
       arrival = λ t e n u a h p. (ap (λ (x : Arrived). x .answer) (arrives-from h) ∙ ap (λ (o : Outcome). saidNumber (o .said)) (sym (arrives-as p)), ap (λ (x : Arrived). x .next) (arrives-from h) ∙ ap (λ (o : Outcome). o .next) (sym (arrives-as p)));
       request = λ t k out r after a left h p. (request-from h .0 ∙ ap requestAnswer (sym (request-as p .answers)), request-from h .1 ∙ sym (request-as p .leaves));
       write = λ x ts gs out r after a left h p. (write-from h .0 ∙ ap writeAnswer (sym (write-as p .answers)), write-from h .1 ∙ sym (write-as p .leaves));
@@ -437,7 +438,7 @@ said-plain (accepted x) p j e = refl
 said-plain (refused n vs) p j e = absurd (omega (arith, positive p j refl))
 
 pub starts-fresh : StartsFresh
-starts-fresh numbers r h e =
+starts-fresh numbers from r h e =
     let s = set-up-from h in
-    let g = said-plain (setUp numbers .said) (omega arith, (omega arith, (omega arith, tt))) (started numbers .judged) (sym (ap (λ (x : StartAnswer). x .answer) s) ∙ e) in
-    subst (Fresh numbers) (sym (ap (λ (x : StartAnswer). x .tracker) s)) (every-set-up-gives numbers g)
+    let g = said-plain (setUp numbers from .said) (omega arith, (omega arith, (omega arith, (omega arith, (omega arith, tt))))) (started numbers from .judged) (sym (ap (λ (x : StartAnswer). x .answer) s) ∙ e) in
+    subst (Fresh numbers from) (sym (ap (λ (x : StartAnswer). x .tracker) s)) (every-set-up-gives numbers from g)

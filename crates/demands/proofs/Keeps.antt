@@ -18,7 +18,7 @@ use Rattle.seats.specs.Places.{span}
 use Rattle.tracker.proofs.Seated.{well-row}
 use Rattle.seats.specs.Arrays.{Arrays}
 use Rattle.seats.proofs.Heads.{marks-at}
-use Rattle.seats.specs.Rules.{allZero, soundRow, soundRows, soundChannels, marks, blank, unused, sound}
+use Rattle.seats.specs.Rules.{isFirst, starts, allZero, soundRow, soundRows, soundChannels, marks, blank, unused, sound}
 use Rattle.tracker.specs.Places.{arraysOf}
 use Rattle.tracker.specs.Rules.{wellFormed}
 use Rattle.demands.specs.Conditions.{firstOf, lastOf, Keeps}
@@ -108,43 +108,50 @@ module _ (f l : List ℕ) where
 -- ---- one channel's row
 
 -- its runs from place b on, n of them
-pub record Row (h n : ℕ) (f l : List ℕ) (b : ℕ) : Type 0 where
+pub record Row (from h n : ℕ) (f l : List ℕ) (b : ℕ) : Type 0 where
   pub few : n ≤ runLimit
   pub high : h ≤ mostNumber
-  pub inside : (j : ℕ) → j < n → (1 ≤ getD f (b + j) 0) × (getD f (b + j) 0 ≤ getD l (b + j) 0) × (getD l (b + j) 0 ≤ h)
+  pub first : (1 ≤ from) × (from ≤ mostNumber)
+  pub start : from ≤ h + 1
+  pub inside : (j : ℕ) → j < n → (from ≤ getD f (b + j) 0) × (getD f (b + j) 0 ≤ getD l (b + j) 0) × (getD l (b + j) 0 ≤ h)
   pub apart : (j : ℕ) → suc j < n → getD l (b + j) 0 + 1 < getD f (b + suc j) 0
   pub empty : (j : ℕ) → n ≤ j → j < runLimit → (getD f (b + j) 0 ≡ 0) × (getD l (b + j) 0 ≡ 0)
 
-module _ (h n : ℕ) (f l : List ℕ) (b : ℕ) where
-  row-keeps : soundRow h n f l b ≡ true → Row h n f l b
+module _ (from h n : ℕ) (f l : List ℕ) (b : ℕ) where
+  row-keeps : soundRow from h n f l b ≡ true → Row from h n f l b
   unfolding soundRow
   row-keeps e =
       let p = and-split (leb n 32) _ e in
       let q = and-split (leb h mostNumber) _ (p .1) in
-      let r = and-split (canon 1 h (span f l b n)) _ (q .1) in
+      let d = and-split (starts from h) _ (q .1) in
+      let a = and-split (isFirst from) _ (d .0) in
+      let c = and-split (leb 1 from) _ (a .0) in
+      let r = and-split (canon from h (span f l b n)) _ (d .1) in
       let k = leb-true n 32 (p .0) in
       record {
         few = k;
         high = leb-true h mostNumber (q .0);
-        inside = λ j g. run-at f l 1 h b n j (r .0) g;
-        apart = λ j g. runs-apart f l 1 h b n j (r .0) g;
+        first = (leb-true 1 from (c .0), leb-true from mostNumber (c .1));
+        start = leb-true from (h + 1) (a .1);
+        inside = λ j g. run-at f l from h b n j (r .0) g;
+        apart = λ j g. runs-apart f l from h b n j (r .0) g;
         empty = λ j g m. let z : b + n + (j - n) ≡ b + j = omega arith in rw z at (zero-at f l (b + n) (32 - n) (j - n) (r .1) (omega arith));
       }
 
-  row-sound : Row h n f l b → soundRow h n f l b ≡ true
+  row-sound : Row from h n f l b → soundRow from h n f l b ≡ true
   unfolding soundRow
   row-sound r =
       let z : b + 0 ≡ b = omega arith in
-      let c = runs-canon f l 1 h b n (λ k. rw z at (r .inside 0 k .0)) (λ j k. (r .inside j k .1, r .inside j k .2)) (λ j k. r .apart j k) in
+      let c = runs-canon f l from h b n (λ k. rw z at (r .inside 0 k .0)) (λ j k. (r .inside j k .1, r .inside j k .2)) (λ j k. r .apart j k) in
       let k = r .few in
       let e = all-zero f l (b + n) (32 - n) (λ j g. let y : b + (n + j) ≡ b + n + j = omega arith in rw y at (r .empty (n + j) (omega arith) (omega arith))) in
-      rw (le-leb n 32 (r .few), le-leb h mostNumber (r .high), c, e)
+      rw (le-leb n 32 (r .few), le-leb h mostNumber (r .high), le-leb 1 from (r .first .0), le-leb from mostNumber (r .first .1), le-leb from (h + 1) (r .start), c, e)
 
 -- ---- channels in turn
 
 module _ (a : Arrays) where
   abbrev row : ℕ → Bool
-  row i = soundRow (getD (a .highest) i 0) (getD (a .counts) i 0) (a .first) (a .last) (i * 32)
+  row i = soundRow (getD (a .from) i 0) (getD (a .highest) i 0) (getD (a .counts) i 0) (a .first) (a .last) (i * 32)
 
   rows-low : (lo i n : ℕ) → soundRows a lo i n ≡ true → 0 < n → lo ≤ getD (a .numbers) i 0
   unfolding soundRows
@@ -196,7 +203,7 @@ module _ (es : List ℕ) where
 
 module _ (a : Arrays) where
   abbrev Zero : ℕ → Type 0
-  Zero i = (getD (a .numbers) i 0 ≡ 0) × (getD (a .highest) i 0 ≡ 0) × (getD (a .ended) i 0 ≡ 0) × (getD (a .counts) i 0 ≡ 0)
+  Zero i = (getD (a .numbers) i 0 ≡ 0) × (getD (a .from) i 0 ≡ 0) × (getD (a .highest) i 0 ≡ 0) × (getD (a .ended) i 0 ≡ 0) × (getD (a .counts) i 0 ≡ 0)
 
   blank-at : (i n j : ℕ) → blank a i n ≡ true → j < n → Zero (i + j)
   unfolding blank
@@ -204,14 +211,16 @@ module _ (a : Arrays) where
   blank-at i (suc n) zero e h =
       let z : i + 0 ≡ i = omega arith in
       let p = and-split (eqb (getD (a .numbers) i 0) 0) _ e in
-      let q = and-split (eqb (getD (a .highest) i 0) 0) _ (p .1) in
+      let o = and-split (eqb (getD (a .from) i 0) 0) _ (p .1) in
+      let q = and-split (eqb (getD (a .highest) i 0) 0) _ (o .1) in
       let r = and-split (eqb (getD (a .ended) i 0) 0) _ (q .1) in
       let s = and-split (eqb (getD (a .counts) i 0) 0) _ (r .1) in
-      rw z (eqb-true (getD (a .numbers) i 0) 0 (p .0), eqb-true (getD (a .highest) i 0) 0 (q .0), eqb-true (getD (a .ended) i 0) 0 (r .0), eqb-true (getD (a .counts) i 0) 0 (s .0))
+      rw z (eqb-true (getD (a .numbers) i 0) 0 (p .0), eqb-true (getD (a .from) i 0) 0 (o .0), eqb-true (getD (a .highest) i 0) 0 (q .0), eqb-true (getD (a .ended) i 0) 0 (r .0), eqb-true (getD (a .counts) i 0) 0 (s .0))
   blank-at i (suc n) (suc j) e h =
       let z : i + suc j ≡ suc i + j = omega arith in
       let p = and-split (eqb (getD (a .numbers) i 0) 0) _ e in
-      let q = and-split (eqb (getD (a .highest) i 0) 0) _ (p .1) in
+      let o = and-split (eqb (getD (a .from) i 0) 0) _ (p .1) in
+      let q = and-split (eqb (getD (a .highest) i 0) 0) _ (o .1) in
       let r = and-split (eqb (getD (a .ended) i 0) 0) _ (q .1) in
       let s = and-split (eqb (getD (a .counts) i 0) 0) _ (r .1) in
       rw z (blank-at (suc i) n j (s .1) (omega arith))
@@ -223,7 +232,7 @@ module _ (a : Arrays) where
       let z : i + 0 ≡ i = omega arith in
       let g : Zero i = rw z at (h 0 (omega arith)) in
       let on = blank-all (suc i) n (λ j k. let y : i + suc j ≡ suc i + j = omega arith in rw y at (h (suc j) (omega arith))) in
-      rw (eq-eqb (getD (a .numbers) i 0) 0 (g .0), eq-eqb (getD (a .highest) i 0) 0 (g .1), eq-eqb (getD (a .ended) i 0) 0 (g .2), eq-eqb (getD (a .counts) i 0) 0 (g .3), on)
+      rw (eq-eqb (getD (a .numbers) i 0) 0 (g .0), eq-eqb (getD (a .from) i 0) 0 (g .1), eq-eqb (getD (a .highest) i 0) 0 (g .2), eq-eqb (getD (a .ended) i 0) 0 (g .3), eq-eqb (getD (a .counts) i 0) 0 (g .4), on)
 
 -- ---- the tracker
 
@@ -244,7 +253,8 @@ module _ (t : Tracker) where
             (let x : 0 + i ≡ i = omega arith in
             let y : 0 + suc i ≡ suc i = omega arith in
             rw (x, y) at (rows-rise (arraysOf t) 0 0 (t .count) i (r .0) h));
-        highest = λ i h. at-row e i h .high;
+        first = λ i h. at-row e i h .first;
+        highest = λ i h. (at-row e i h .start, at-row e i h .high);
         mark = λ i h. (let x : 0 + i ≡ i = omega arith in rw x at (marks-at (t .ended) 0 8 i (r .1) h));
         runs = λ i h. at-row e i h .few;
         inside = λ i j h k. at-row e i h .inside j k;
@@ -255,8 +265,8 @@ module _ (t : Tracker) where
         empty = λ i j h k m. ⊎-elim (λ g. at-row e i g .empty j k m) (λ g. behind i j h g m (u .1)) (lt-or-le i (t .count));
       }
     where
-      at-row : wellFormed t ≡ true → (i : ℕ) → i < t .count → Row (getD (t .highest) i 0) (getD (t .counts) i 0) (t .first) (t .last) (i * 32)
-      at-row e i h = row-keeps (getD (t .highest) i 0) (getD (t .counts) i 0) (t .first) (t .last) (i * 32) (well-row t e i h .row)
+      at-row : wellFormed t ≡ true → (i : ℕ) → i < t .count → Row (getD (t .from) i 0) (getD (t .highest) i 0) (getD (t .counts) i 0) (t .first) (t .last) (i * 32)
+      at-row e i h = row-keeps (getD (t .from) i 0) (getD (t .highest) i 0) (getD (t .counts) i 0) (t .first) (t .last) (i * 32) (well-row t e i h .row)
 
       behind : (i j : ℕ) → i < 8 → t .count ≤ i → j < 32 → allZero (span (t .first) (t .last) (t .count * 32) (256 - t .count * 32)) ≡ true → (firstOf t i j ≡ 0) × (lastOf t i j ≡ 0)
       behind i j h g m z =
@@ -280,12 +290,14 @@ module _ (t : Tracker) where
       let d = all-zero (t .first) (t .last) (t .count * 32) (256 - t .count * 32) (λ j h. tail j (omega (arith, few))) in
       rw (ne-eqb (t .count) 0 (λ z. omega (arith, some, z)), le-leb (t .count) 8 few, a, b, c, d)
     where
-      the-row : (i : ℕ) → i < t .count → soundRow (getD (t .highest) i 0) (getD (t .counts) i 0) (t .first) (t .last) (i * 32) ≡ true
+      the-row : (i : ℕ) → i < t .count → soundRow (getD (t .from) i 0) (getD (t .highest) i 0) (getD (t .counts) i 0) (t .first) (t .last) (i * 32) ≡ true
       the-row i h =
-          row-sound (getD (t .highest) i 0) (getD (t .counts) i 0) (t .first) (t .last) (i * 32)
+          row-sound (getD (t .from) i 0) (getD (t .highest) i 0) (getD (t .counts) i 0) (t .first) (t .last) (i * 32)
           (record {
             few = k .runs i h;
-            high = k .highest i h;
+            high = k .highest i h .1;
+            first = k .first i h;
+            start = k .highest i h .0;
             inside = λ j g. k .inside i j h g;
             apart = λ j g. k .apart i j h g;
             empty = λ j g m. k .empty i j (omega (arith, k .eight)) g m;
@@ -301,5 +313,5 @@ module _ (t : Tracker) where
           let m = mod-lt p w in
           let x : i * 32 + j ≡ t .count * 32 + p = omega (arith, d) in
           let g : i < 8 = omega (arith, d) in
-          let z = k .unused i (omega arith) g .3 in
+          let z = k .unused i (omega arith) g .4 in
           rw x at (k .empty i j g (omega (arith, z)) m)

@@ -10,23 +10,24 @@ use lib.ListN.{length, getD, set, replicate, length-set, List·getD-append}
 use lib.Seq.{set-getD, getD-set-same, getD-set-other}
 use mir.Syntax.{w64}
 use mir.Val.{SFits}
-use borrow.Author.Tests.{eqb-true, eqb-false, eq-eqb, ne-eqb}
+use borrow.Author.Tests.{le-leb, eqb-true, eqb-false, eq-eqb, ne-eqb}
 use Rattle.wire.specs.Answer.{Answer, accepted, refused}
 use Rattle.wire.specs.Refusal.{noSuchChannel}
 use Rattle.gaps.specs.Limits.{mostNumber}
-use Rattle.gaps.specs.Channel.{Channel, fresh, Event, ArrivalSaid, Step, natural, judgeEvent}
+use Rattle.gaps.specs.Channel.{Channel, fresh, Event, ArrivalSaid, Step, natural, taken, judgeEvent}
 use Rattle.gaps.specs.History.{numberOf, top}
 use Rattle.gaps.proofs.Numbers.{lt-or-le, larger-of}
 use Rattle.gaps.proofs.Sets.{yes-canon}
 use Rattle.gaps.proofs.History.{top-more}
-use Rattle.gaps.proofs.Exact.{Exact, fresh-exact, taken-exact}
+use Rattle.gaps.proofs.Exact.{Exact, fresh-exact, taken-exact, early-exact}
 use Rattle.gaps.proofs.Alone as alone
-use Rattle.gaps.proofs.Alone.{Judged, judge, leaves, words, after, play, answers, small}
+use Rattle.gaps.proofs.Alone.{Judged, judge, leaves, words, after, play, answers, from-stays}
 use Rattle.tracker.specs.declared.Tracker.{Tracker}
 use Rattle.tracker.specs.Rules.{wellFormed}
+use Rattle.seats.specs.Rules.{isFirst}
 use Rattle.seats.specs.Seat.{placeFrom}
 use Rattle.tracker.specs.Arrived.{Arrival, place, Outcome, settled, arrive, arrivalSaid}
-use Rattle.tracker.proofs.Signed.{natural-most}
+use Rattle.gaps.proofs.Signed.{natural-most}
 use Rattle.tracker.proofs.Seated.{arrived-7, arrived-at}
 use Rattle.tracker.proofs.Holder.{holder, at, Good, AllGood, holder-put, holder-channel, holder-well, Listed}
 use Rattle.demands.proofs.Calls.{arrives-as}
@@ -36,32 +37,36 @@ use Rattle.demands.specs.Play.{Callable, Turn, turn, Play, done, step, a
 
 pub record Known (c : Channel) : Type 0 where
   pub past : List Event
-  pub exact : Exact 1 c past
+  pub exact : Exact (c .from) c past
+  pub first : isFirst (c .from) ≡ true
   pub size : length (c .runs) ≤ 32
   pub high : c .highest ≤ mostNumber
 
 known-good : {c : Channel} → Known c → Good c
-known-good {c} k = record { small = k .size; high = k .high; start = k .exact .own; order = yes-canon 1 (c .highest) (c .runs) (k .exact .order) }
+known-good {c} k = record { small = k .size; high = k .high; first = k .first; start = k .exact .start; order = yes-canon (c .from) (c .highest) (c .runs) (k .exact .order) }
 
 known-after : (c : Channel) (e : Event) → SFits w64 (numberOf e) → Known c → Known (after c e)
 known-after c e f k = go (judgeEvent c e) (judge c e)
   where
     go : (a : Answer Step) → Judged c e a → Known (leaves c a)
     go a (alone.low p) = k
-    go a (alone.full p q) = k
-    go a (alone.took p q) =
-        let x = taken-exact 1 c (k .past) (k .exact) e p in
-        let t = x .tops ∙ top-more 1 (k .past) e in
+    go a (alone.early p s) =
+        record { past = k .past ++ (e ∷ []); exact = early-exact (c .from) c (k .past) (k .exact) e p s; first = k .first; size = k .size; high = k .high }
+    go a (alone.full p s q) = k
+    go a (alone.took p s q) =
+        let x = taken-exact (c .from) c (k .past) (k .exact) e p in
+        let t = x .tops ∙ top-more (c .from) (k .past) e in
         let m = natural-most (numberOf e) f in
         record {
           past = k .past ++ (e ∷ []);
-          exact = x;
+          exact = subst (λ (y : ℕ). Exact y (taken c e .next) (k .past ++ (e ∷ []))) (sym (x .own)) x;
+          first = rw (x .own) (k .first);
           size = q;
-          high = ⊎-elim (λ y. omega (arith, t, k .exact .tops, k .high)) (λ y. omega (arith, t, m)) (larger-of (top 1 (k .past)) (natural (numberOf e)) .2);
+          high = ⊎-elim (λ y. omega (arith, t, k .exact .tops, k .high)) (λ y. omega (arith, t, m)) (larger-of (top (c .from) (k .past)) (natural (numberOf e)) .2);
         }
 
-pub known-fresh : Known (fresh 1)
-known-fresh = record { past = []; exact = fresh-exact 1 (omega arith); size = omega arith; high = omega arith }
+pub known-fresh : (n : ℕ) → 1 ≤ n → n ≤ mostNumber → Known (fresh n)
+known-fresh n p q = record { past = []; exact = fresh-exact n p; first = rw (le-leb 1 n p) (le-leb n mostNumber q); size = omega arith; high = omega arith }
 
 abbrev pub AllKnown : List Channel → Type 0
 AllKnown cs = (i : ℕ) → i < length cs → Known (at cs i)
@@ -132,13 +137,17 @@ module _ (ns : List ℕ) where
       go true e = eq-eqb (seat j) (seat k) (ap seat (eqb-true j k e))
       go false e = ne-eqb (seat j) (seat k) (λ d. eqb-false j k e (seat-apart j k (rw (sym d) at q) q d))
 
+  -- a channel stands in the list at its seat
+  pub seat-number : (k : ℕ) → seat k < length ns → getD ns (seat k) 0 ≡ k
+  unfolding place
+  seat-number k h =
+      sym (List·getD-append ns (replicate {A = ℕ} (8 - length ns) 0) 0 (seat k) h) ∙ place-number (holder ns [] .numbers) k 0 (length ns) (omega arith)
+
   -- a channel has a seat exactly when it is listed
   pub seat-listed : (k : ℕ) → (seat k < length ns) ↔ List·Memᴰ k ns
   unfolding place
   seat-listed k = (
-    λ h. (let n = place-number (holder ns [] .numbers) k 0 (length ns) (omega arith) in
-        let d = List·getD-append ns (replicate {A = ℕ} (8 - length ns) 0) 0 (seat k) h in
-        subst (λ (x : ℕ). List·Memᴰ x ns) (sym d ∙ n) (mem-at ns (seat k) h)),
+    λ h. subst (λ (x : ℕ). List·Memᴰ x ns) (seat-number k h) (mem-at ns (seat k) h),
     λ m. (let s = stands m in
         let d = List·getD-append ns (replicate {A = ℕ} (8 - length ns) 0) 0 (s .spot) (s .inside) in
         omega (arith, place-found (holder ns [] .numbers) k 0 (length ns) (s .spot) (omega arith) (omega (arith, s .inside)) (d ∙ s .here))),
@@ -150,10 +159,10 @@ module _ (ns : List ℕ) where
     well : wellFormed (holder ns cs) ≡ true
     well = holder-well ns cs o n (all-good cs k)
 
-    settled-holder : (i : ℕ) → i < length cs → (a : Answer Step) → Good (leaves (at cs i) a) →
+    settled-holder : (i : ℕ) → i < length cs → (a : Answer Step) → Good (leaves (at cs i) a) → leaves (at cs i) a .from ≡ at cs i .from →
         settled (holder ns cs) i a ≡ record { said = words a; next = holder ns (set cs i (leaves (at cs i) a)) }
-    settled-holder i h (accepted s) g = rw (holder-put ns cs i (s .next) (all-good cs k) h g)
-    settled-holder i h (refused m v) g = rw (set-getD cs i (fresh 1))
+    settled-holder i h (accepted s) g f = rw (holder-put ns cs i (s .next) (all-good cs k) h g f)
+    settled-holder i h (refused m v) g f = rw (set-getD cs i (fresh 1))
 
     arrives : (a : Arrival) → Callable a → seat (a .channel) < length ns →
         arrive (holder ns cs) a ≡ record { said = words (judgeEvent (at cs (seat (a .channel))) (a .event)); next = holder ns (set cs (seat (a .channel)) (after (at cs (seat (a .channel))) (a .event))) }
@@ -162,7 +171,7 @@ module _ (ns : List ℕ) where
         let d : i < length cs = omega arith in
         arrived-at (holder ns cs) (a .channel) (a .event) well (rw (seat-same cs (a .channel)) h)
         ∙ rw (seat-same cs (a .channel), holder-channel ns cs (all-good cs k) i d)
-        (settled-holder i d (judgeEvent (at cs i) (a .event)) (known-good (known-after (at cs i) (a .event) f (k i d))))
+        (settled-holder i d (judgeEvent (at cs i) (a .event)) (known-good (known-after (at cs i) (a .event) f (k i d))) (from-stays (at cs i) (a .event)))
 
     passes : (a : Arrival) → length ns ≤ seat (a .channel) → arrive (holder ns cs) a ≡ record { said = refused noSuchChannel []; next = holder ns cs }
     passes a h = arrived-7 (holder ns cs) (a .channel) (a .event) well (rw (seat-same cs (a .channel)) h)

@@ -19,15 +19,16 @@ use Rattle.demands.specs.CalledFromC.{ArrivesFromC, by-tick, by-heartbea
 use Rattle.demands.specs.Interface.{done, step, EveryListPlaysFromC}
 use Rattle.demands.proofs.Calls.{lent}
 
--- an arrival leaves the count of channels and their numbers, which are lent to be read alone
+-- an arrival leaves the count of channels, their numbers and first numbers, which are lent to be read alone
 record Stays (t u : Tracker) : Type 0 where
   pub count : t .count ≡ u .count
   pub numbers : t .numbers ≡ u .numbers
+  pub from : t .from ≡ u .from
 
 stays-by : (t : Tracker) (i : ℕ) (x : Answer Step) → Stays t (settled t i x .next)
 unfolding put
-stays-by t i (accepted s) = record { count = refl; numbers = refl }
-stays-by t i (refused n vs) = record { count = refl; numbers = refl }
+stays-by t i (accepted s) = record { count = refl; numbers = refl; from = refl }
+stays-by t i (refused n vs) = record { count = refl; numbers = refl; from = refl }
 
 stays : (t : Tracker) (a : Arrival) → Stays t (arrive t a .next)
 unfolding arrive
@@ -37,12 +38,12 @@ stays t a =
     (guard (not (ltb (place t (a .channel)) (t .count))) (refused noSuchChannel [])
     (judgeEvent (channelAt t (place t (a .channel))) (a .event))))
 
--- the tracker with these arrays, under the count and the numbers that stood
+-- the tracker with these arrays, under the count, the numbers and the first numbers that stood
 abbrev under : Tracker → Tracker → Tracker
-under t u = record { count = t .count; numbers = t .numbers; highest = u .highest; ended = u .ended; counts = u .counts; first = u .first; last = u .last }
+under t u = record { count = t .count; numbers = t .numbers; from = t .from; highest = u .highest; ended = u .ended; counts = u .counts; first = u .first; last = u .last }
 
 same-next : (t u : Tracker) → Stays t u → under t u ≡ u
-same-next t u s = λ i. record { count = s .count i; numbers = s .numbers i; highest = u .highest; ended = u .ended; counts = u .counts; first = u .first; last = u .last }
+same-next t u s = λ i. record { count = s .count i; numbers = s .numbers i; from = s .from i; highest = u .highest; ended = u .ended; counts = u .counts; first = u .first; last = u .last }
 
 gives : (t : Tracker) (a : Arrival) → replied (saidNumber (arrive t a .said)) (under t (arrive t a .next)) ≡ arrivalAnswer (arrive t a)
 gives t a = ap (replied (saidNumber (arrive t a .said))) (same-next t (arrive t a .next) (stays t a))
@@ -53,13 +54,13 @@ abbrev κs : Lfts 6
 heard : (t : Tracker) (k : ℕ) (m : ℤ) (b : ℕ) → ArrivesFromC t (on k (heartbeat m (ending b))) (saidNumber (arrive t (on k (heartbeat m (ending b))) .said)) (under t (arrive t (on k (heartbeat m (ending b))) .next))
 heard t k m b =
     let u = arrive t (on k (heartbeat m (ending b))) .next in
-    by-heartbeat κs (t .count) (t .count) (lent (t .numbers)) (lent (t .numbers)) (lent (t .highest)) (lent (u .highest)) (lent (t .ended)) (lent (u .ended)) (lent (t .counts)) (lent (u .counts)) (lent (t .first)) (lent (u .first)) (lent (t .last)) (lent (u .last))
+    by-heartbeat κs (t .count) (t .count) (lent (t .numbers)) (lent (t .numbers)) (lent (t .from)) (lent (t .from)) (lent (t .highest)) (lent (u .highest)) (lent (t .ended)) (lent (u .ended)) (lent (t .counts)) (lent (u .counts)) (lent (t .first)) (lent (u .first)) (lent (t .last)) (lent (u .last))
     k k m m b b _ (gives t (on k (heartbeat m (ending b))))
 
 arrives : (t : Tracker) (k : ℕ) (e : Event) → ArrivesFromC t (on k e) (saidNumber (arrive t (on k e) .said)) (under t (arrive t (on k e) .next))
 arrives t k (tick n) =
     let u = arrive t (on k (tick n)) .next in
-    by-tick κs (t .count) (t .count) (lent (t .numbers)) (lent (t .numbers)) (lent (t .highest)) (lent (u .highest)) (lent (t .ended)) (lent (u .ended)) (lent (t .counts)) (lent (u .counts)) (lent (t .first)) (lent (u .first)) (lent (t .last)) (lent (u .last))
+    by-tick κs (t .count) (t .count) (lent (t .numbers)) (lent (t .numbers)) (lent (t .from)) (lent (t .from)) (lent (t .highest)) (lent (u .highest)) (lent (t .ended)) (lent (u .ended)) (lent (t .counts)) (lent (u .counts)) (lent (t .first)) (lent (u .first)) (lent (t .last)) (lent (u .last))
     k k n n _ (gives t (on k (tick n)))
 arrives t k (heartbeat m true) = heard t k m 1
 arrives t k (heartbeat m false) = heard t k m 0

@@ -147,10 +147,10 @@ module _ (t u : Tracker) (l : List Turn) (k : ℕ) (x : Exact (startOf t k) (cha
           go (inr h) = rw (asked-batch r h) (omega arith)
 
 pub request-asks-for-missing : RequestAsksForMissing
-request-asks-for-missing ns t u l f p k h c out after a n call e =
+request-asks-for-missing ns fs t u l f p k h c out after a n call e =
     let q = request-reads u k out after a n c call e in
     let g = front (channelOf u k .runs) (q .run) (first-of u k (lost (q .run)) (q .first) .same) in
-    asks-missing t u l k (view ns t u l f p k h .right) (q .run) g after (q .asks)
+    asks-missing t u l k (view ns fs t u l f p k h .right) (q .run) g after (q .asks)
 
 -- "nothing missing" is answered where the channel has no run
 none-first : (u : Tracker) (k room : ℕ) (x : Answer Lost) → firstRun u k ≡ x → answerOf (andThen x (roomForRequest room)) ≡ accepted nothing → firstRun u k ≡ accepted nothingMissing
@@ -168,6 +168,6 @@ empty [] e n i = i
 empty (r ∷ l) e n i = let z : _≡_ {A = ℕ} 0 1 = cc in omega arith
 
 pub nothing-is-missing : NothingIsMissing
-nothing-is-missing ns t u l f p k h out after a call e n m =
+nothing-is-missing ns fs t u l f p k h out after a call e n m =
     let q = none-first u k (length out) (firstRun u k) refl (sym (answers-by u k out refl) ∙ sym (request-as call .answers) ∙ e) in
-    empty (channelOf u k .runs) (first-of u k nothingMissing q .same) n (view ns t u l f p k h .right .back n m)
+    empty (channelOf u k .runs) (first-of u k nothingMissing q .same) n (view ns fs t u l f p k h .right .back n m)

@@ -22,7 +22,7 @@ use Rattle.gaps.specs.Limits.{runLimit, mostNumber}
 use Rattle.gaps.specs.Channel.{Event, tick, heartbeat, taken}
 use Rattle.tracker.specs.declared.Tracker.{Tracker}
 use Rattle.seats.specs.Places.{channelLimit}
-use Rattle.demands.specs.Play.{channelOf}
+use Rattle.demands.specs.Play.{channelOf, startOf}
 
 -- ---- a frame, and its body
 
@@ -166,6 +166,12 @@ pub record Falls (numbers : List ℕ) : Type 0 where
   pub inside : suc place < length numbers
   pub falls : getD numbers (suc place) 0 ≤ getD numbers place 0
 
+-- T1: a first number that is not from 1 to the largest
+pub record NoFirst (from : List ℤ) : Type 0 where
+  pub place : ℕ
+  pub inside : place < length from
+  pub out : (getD from place (pos 0) <ℤ pos 1) ⊎ (pos mostNumber <ℤ getD from place (pos 0))
+
 -- ---- the rules that a tracker keeps, place by place
 
 -- the first and the last number of run j of the channel at place i
@@ -175,17 +181,18 @@ firstOf t i j = getD (t .first) (i * runLimit + j) 0
 abbrev pub lastOf : Tracker → ℕ → ℕ → ℕ
 lastOf t i j = getD (t .last) (i * runLimit + j) 0
 
--- T1, T2, T3, T4, R10: channels, highest numbers, marks, runs and unused places as the rules have them
+-- T1, T2, T3, T4, R10: channels, first and highest numbers, marks, runs and unused places as the rules have them
 pub record Keeps (t : Tracker) : Type 0 where
   pub one : 1 ≤ t .count
   pub eight : t .count ≤ channelLimit
   pub ascending : (i : ℕ) → suc i < t .count → getD (t .numbers) i 0 < getD (t .numbers) (suc i) 0
-  pub highest : (i : ℕ) → i < t .count → getD (t .highest) i 0 ≤ mostNumber
+  pub first : (i : ℕ) → i < t .count → (1 ≤ getD (t .from) i 0) × (getD (t .from) i 0 ≤ mostNumber)
+  pub highest : (i : ℕ) → i < t .count → (getD (t .from) i 0 ≤ getD (t .highest) i 0 + 1) × (getD (t .highest) i 0 ≤ mostNumber)
   pub mark : (i : ℕ) → i < channelLimit → getD (t .ended) i 0 ≤ 1
   pub runs : (i : ℕ) → i < t .count → getD (t .counts) i 0 ≤ runLimit
-  pub inside : (i j : ℕ) → i < t .count → j < getD (t .counts) i 0 → (1 ≤ firstOf t i j) × (firstOf t i j ≤ lastOf t i j) × (lastOf t i j ≤ getD (t .highest) i 0)
+  pub inside : (i j : ℕ) → i < t .count → j < getD (t .counts) i 0 → (getD (t .from) i 0 ≤ firstOf t i j) × (firstOf t i j ≤ lastOf t i j) × (lastOf t i j ≤ getD (t .highest) i 0)
   pub apart : (i j : ℕ) → i < t .count → suc j < getD (t .counts) i 0 → lastOf t i j + 1 < firstOf t i (suc j)
-  pub unused : (i : ℕ) → t .count ≤ i → i < channelLimit → (getD (t .numbers) i 0 ≡ 0) × (getD (t .highest) i 0 ≡ 0) × (getD (t .ended) i 0 ≡ 0) × (getD (t .counts) i 0 ≡ 0)
+  pub unused : (i : ℕ) → t .count ≤ i → i < channelLimit → (getD (t .numbers) i 0 ≡ 0) × (getD (t .from) i 0 ≡ 0) × (getD (t .highest) i 0 ≡ 0) × (getD (t .ended) i 0 ≡ 0) × (getD (t .counts) i 0 ≡ 0)
   pub empty : (i j : ℕ) → i < channelLimit → getD (t .counts) i 0 ≤ j → j < runLimit → (firstOf t i j ≡ 0) × (lastOf t i j ≡ 0)
 
 -- ---- an arrival, and a request
@@ -199,9 +206,14 @@ abbrev pub Low : Event → Type 0
 Low (tick n) = n <ℤ pos 1
 Low (heartbeat m end) = m <ℤ pos 0
 
--- R9: the runs that channel k would have behind the event are too many
+-- T13: a tick below the channel's first number
+abbrev pub Early : Tracker → ℕ → Event → Type 0
+Early t k (tick n) = n <ℤ pos (startOf t k)
+Early t k (heartbeat m end) = ⊥
+
+-- R9, J4: the event is not before start, and the runs that channel k would have behind it are too many
 abbrev pub Overfills : Tracker → ℕ → Event → Type 0
-Overfills t k e = runLimit < length (taken (channelOf t k) e .next .runs)
+Overfills t k e = (Early t k e → ⊥) × (runLimit < length (taken (channelOf t k) e .next .runs))
 
 -- R6: there is a run to ask for, and the output is shorter than its frame
 abbrev pub RequestShort : Tracker → ℕ → ℕ → Type 0

@@ -4,6 +4,7 @@ use Prim.Native.Nat.{ℕ, _+_, _<_}
 use mathlib.Core.Path.{_≡_}
 use mathlib.Core.Logic.{_⊎_}
 use mathlib.Core.List.{List, [], _∷_, _++_}
+use lib.IntN.{ℤ}
 use lib.ListN.{length}
 use Rattle.wire.specs.Answer.{refused}
 use Rattle.wire.specs.Bytes.{beAt, part}
@@ -26,7 +27,7 @@ use Rattle.streams.specs.declared.Stream.{Stream}
 use Rattle.demands.specs.Streams.{LedTo}
 use Rattle.demands.specs.Calls.{FrameRead, FrameBody, Judge, GroupsOf}
 use Rattle.demands.specs.Rules.{Rule, _if_, _lacking_provided_}
-use Rattle.demands.specs.Conditions.{L, lacks, SumDiffers, TooLongIn, WrongSumIn, GoesOn, LeftOver, BodyShort, Strays, behindOf, EntryLacks, EntryStrays, Exactly, NumberOut, SomeGroupOut, Falls, Keeps, NotIn, Low, Overfills, RequestShort}
+use Rattle.demands.specs.Conditions.{L, lacks, SumDiffers, TooLongIn, WrongSumIn, GoesOn, LeftOver, BodyShort, Strays, behindOf, EntryLacks, EntryStrays, Exactly, NumberOut, SomeGroupOut, Falls, NoFirst, Keeps, NotIn, Low, Overfills, RequestShort}
 
 -- F8, R1, R2, J1: the bytes of a frame
 abbrev pub frameRules : List ℕ → List Rule
@@ -77,9 +78,15 @@ writerRules (known m zs) ts gs room =
     ∷ outputShort if (room < 12 + bodyLength m gs)
     ∷ []
 
--- T1, R10: a list of channels
-abbrev pub setUpRules : List ℕ → List Rule
-setUpRules numbers = malformed if (length numbers ≡ 0) ∷ malformed if (channelLimit < length numbers) ∷ malformed if Falls numbers ∷ []
+-- T1, R10: a list of channels, and one of their first numbers
+abbrev pub setUpRules : List ℕ → List ℤ → List Rule
+setUpRules numbers from =
+    malformed if (length numbers ≡ 0)
+    ∷ malformed if (channelLimit < length numbers)
+    ∷ malformed if (length numbers ≡ length from → ⊥)
+    ∷ malformed if Falls numbers
+    ∷ malformed if NoFirst from
+    ∷ []
 
 -- J4: an arrival on channel k
 abbrev pub arrivalRules : Tracker → ℕ → Event → List Rule

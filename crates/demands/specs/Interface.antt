@@ -117,7 +117,8 @@ pub record Refusals : Type 1 where
       PlainBy (stepRules type b (meansCursor c)) n z left
   -- `orizhgum_set_up`
   pub set-up :
-      (numbers : List ℕ) (r : StartAnswer) → SetUpFromC numbers r → PlainBy (setUpRules numbers) (r .answer) (starting.blankOf []) (r .tracker)
+      (numbers : List ℕ) (from : List ℤ) (r : StartAnswer) → SetUpFromC numbers from r →
+      PlainBy (setUpRules numbers from) (r .answer) (starting.blankOf [] []) (r .tracker)
   -- `orizhgum_tick_in`, `orizhgum_heard_in`, and the arrays
   pub arrival :
       (t : Tracker) (a : Arrival) (n : ℕ) (u : Tracker) → ArrivesFromC t a n u → KeptBy (arrivalRules t (a .channel) (a .event)) n t u
@@ -184,7 +185,9 @@ pub record SameAnswers : Type 0 where
       (c : Cursor) (type : ℕ) (b : List ℕ) (z : ℤ) (n : ℕ) (left : ℤ) (a : Step) → StepPriceFromC c type b z n left → CursorStep c type b a →
       (n ≡ pricing (entryFound (meansStep a))) × (left ≡ pricedLeft (entryFound (meansStep a)) z)
   -- `orizhgum_set_up`, `Tracker::set_up`
-  pub set-up : (numbers : List ℕ) (r : StartAnswer) (a : Started) → SetUpFromC numbers r → SetsUp numbers a → r ≡ startAnswer (starting.meansStarted a)
+  pub set-up :
+      (numbers : List ℕ) (from : List ℤ) (r : StartAnswer) (a : Started) → SetUpFromC numbers from r → SetsUp numbers from a →
+      r ≡ startAnswer (starting.meansStarted a)
   -- `orizhgum_tick_in`, `orizhgum_heard_in`, `Tracker::tick`, `Tracker::heartbeat`
   pub arrival :
       (t : Tracker) (e : Arrival) (n : ℕ) (u : Tracker) (a : Reply) → ArrivesFromC t e n u → Arrives t e a →
@@ -272,4 +275,4 @@ EveryListPlaysFromC = (t : Tracker) (l : List Arrival) → AllCallable l → Pla
 
 -- T1, D31: a set-up that is answered plainly gives a fresh record
 abbrev pub StartsFresh : Type 0
-StartsFresh = (numbers : List ℕ) (r : StartAnswer) → SetUpFromC numbers r → r .answer ≡ plain → Fresh numbers (r .tracker)
+StartsFresh = (numbers : List ℕ) (from : List ℤ) (r : StartAnswer) → SetUpFromC numbers from r → r .answer ≡ plain → Fresh numbers from (r .tracker)

@@ -4,7 +4,7 @@
 use Prim.Native.Nat.{ℕ, _+_, _^_, _≤_, _<_}
 use mathlib.Core.Path.{_≡_}
 use mathlib.Core.List.{List, [], _∷_}
-use lib.IntN.{pos}
+use lib.IntN.{ℤ, pos}
 use lib.ListN.{replicate}
 use Rattle.wire.specs.Answer.{accepted}
 use Rattle.frame.specs.Framing as framed-as
@@ -63,11 +63,11 @@ pub record AsksForMissing (t : Tracker) (k : ℕ) (l : List Turn) (s : List ℕ)
 -- D41: whatever was played into a fresh record, a request that is answered written asks for missing numbers
 abbrev pub RequestAsksForMissing : Type 0
 RequestAsksForMissing =
-    (numbers : List ℕ) (t u : Tracker) (l : List Turn) → Fresh numbers t → Play t l u → (k : ℕ) → Has t k → k < 256 ^ 2 →
+    (numbers : List ℕ) (from : List ℤ) (t u : Tracker) (l : List Turn) → Fresh numbers from t → Play t l u → (k : ℕ) → Has t k → k < 256 ^ 2 →
     (out after : List ℕ) (a : Requested) (n : ℕ) → Request u k out a after → meansRequested a ≡ accepted (written n) → AsksForMissing t k l after
 
 -- D41: and one that is answered "nothing missing" has none to ask for
 abbrev pub NothingIsMissing : Type 0
 NothingIsMissing =
-    (numbers : List ℕ) (t u : Tracker) (l : List Turn) → Fresh numbers t → Play t l u → (k : ℕ) → Has t k →
+    (numbers : List ℕ) (from : List ℤ) (t u : Tracker) (l : List Turn) → Fresh numbers from t → Play t l u → (k : ℕ) → Has t k →
     (out after : List ℕ) (a : Requested) → Request u k out a after → meansRequested a ≡ accepted nothing → (n : ℕ) → Misses t k l n → ⊥

@@ -7,10 +7,10 @@ use mathlib.Core.Logic.{_⊎_, inl, inr, ⊎-elim}
 use mathlib.Core.List.{List, [], _∷_, _++_}
 use mathlib.Core.Bool.{Bool, true, false, false≢true, _||_, or-false}
 use lib.IntN.{pos, negsuc}
-use borrow.Author.Tests.{le-leb, lt-leb, lt-ltb, le-ltb}
+use borrow.Author.Tests.{le-leb, lt-leb, lt-ltb, le-ltb, ltb-true}
 use Rattle.gaps.specs.declared.Run.{Run}
 use Rattle.gaps.specs.Gaps.{larger, has, cutAll, fill}
-use Rattle.gaps.specs.Channel.{Channel, fresh, changed, Event, tick, heartbeat, new, late, duplicate, natural, ticked, announced, taken, tooLow}
+use Rattle.gaps.specs.Channel.{Channel, fresh, changed, Event, tick, heartbeat, new, late, duplicate, natural, ticked, announced, taken, tooLow, tooEarly}
 use Rattle.gaps.specs.History.{Brought, top, ends, Missing, Forms}
 use Rattle.gaps.proofs.Numbers.{lt-or-le, larger-of, larger-is}
 use Rattle.gaps.proofs.Sets.{In, Canon, widen, unique, canon-yes, yes-canon, has-in, in-has, cut-out, cut-in, cut-canon, grow-out, grow-old, grow-new, grow-canon}
@@ -174,6 +174,14 @@ module _ (from : ℕ) (c : Channel) (h : List Event) (x : Exact from c h) where
         go (inl a) g e = rw (ticked-new c n a) (at-new a)
         go (inr a) true e = rw (ticked-late c n a e) (at-late a)
         go (inr a) false e = rw (ticked-again c n a e) (at-again a (λ w. false≢true (sym e ∙ in-has (c .runs) n w)))
+
+  -- a tick below the first number says nothing
+  pub early-exact : (e : Event) → tooLow e ≡ false → tooEarly c e ≡ true → Exact from c (h ++ (e ∷ []))
+  early-exact (tick (negsuc n)) p q = absurd (false≢true (sym p))
+  early-exact (heartbeat z end) p q = absurd (false≢true q)
+  early-exact (tick (pos n)) p q =
+      let b : n < c .from = ltb-true n (c .from) q in
+      at-again n (omega (arith, x .start, x .own)) (λ w. let m = x .out n w in omega (arith, x .own, m .0))
 
   module _ (m : ℕ) (end : Bool) where
     quiet : (i : ℕ) → Brought (h ++ (heartbeat (pos m) end ∷ [])) i → Brought h i

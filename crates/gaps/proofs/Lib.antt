@@ -1,4 +1,5 @@
 pub mod Numbers
+pub mod Signed
 pub mod Cut
 pub mod Grow
 pub mod Sets

@@ -4,10 +4,10 @@ use Prim.Native.Nat.{ℕ}
 use mathlib.Core.Bool.{Bool, not}
 use lib.Dec.{eqb}
 use Rattle.wire.specs.Answer.{Answer, accepted, refused}
-use Rattle.gaps.specs.Channel.{ArrivalSaid, new, late, duplicate, heard}
+use Rattle.gaps.specs.Channel.{ArrivalSaid, new, late, duplicate, heard, beforeStart}
 use Rattle.tracker.specs.SetUp.{Ready}
 use Rattle.tracker.specs.Arrived.{Outcome}
-use Rattle.wire.specs.Number.{plain, lateNumber, duplicateNumber, answerNumber}
+use Rattle.wire.specs.Number.{plain, lateNumber, duplicateNumber, beforeStartNumber, answerNumber}
 use Rattle.orizhgum.specs.declared.arrivals.StartAnswer.{StartAnswer}
 use Rattle.tracker.specs.declared.Tracker.{Tracker}
 
@@ -17,6 +17,7 @@ saidNumber (accepted new) = plain
 saidNumber (accepted late) = lateNumber
 saidNumber (accepted duplicate) = duplicateNumber
 saidNumber (accepted heard) = plain
+saidNumber (accepted beforeStart) = beforeStartNumber
 saidNumber (refused n vs) = n
 
 -- C1, J7: the set-up's answer, and the tracker

@@ -11,6 +11,7 @@ use tracker::Tracker;
 use tracker::Verdict;
 use tracker::heartbeat_in;
 use tracker::tick_in;
+use wire::answers::BEFORE_START;
 use wire::answers::DUPLICATE;
 use wire::answers::LATE;
 use wire::answers::PLAIN;
@@ -30,6 +31,7 @@ fn verdict_number(verdict: Verdict) -> u32
         Verdict::Late => LATE,
         Verdict::Duplicate => DUPLICATE,
         Verdict::Heard => PLAIN,
+        Verdict::BeforeStart => BEFORE_START,
         Verdict::NoSuchChannel => verdict.number(),
         Verdict::NumberTooLow => verdict.number(),
         Verdict::TableFull => verdict.number(),
@@ -37,12 +39,12 @@ fn verdict_number(verdict: Verdict) -> u32
     }
 }
 
-// A tracker of these channels that nothing has reached, or the all-zero tracker where they are refused.
+// A tracker of these channels, with a first number for each, that nothing has reached; or the all-zero tracker where they are refused.
 #[no_mangle]
-pub extern "C" fn orizhgum_set_up(channels: &[u16]) -> StartAnswer
-    ensures { λ r. ⌜ r ≡ startAnswer (setUp (now (channels .entry))) ⌝ }
+pub extern "C" fn orizhgum_set_up<'a>(channels: &'a [u16], from: &'a [i64]) -> StartAnswer
+    ensures { λ r. ⌜ r ≡ startAnswer (setUp (now (channels .entry)) (now (from .entry))) ⌝ }
 {
-    let s = Tracker::set_up(channels);
+    let s = Tracker::set_up(channels, from);
     let verdict = s.verdict;
     let tracker = s.tracker;
     StartAnswer {
@@ -53,9 +55,10 @@ pub extern "C" fn orizhgum_set_up(channels: &[u16]) -> StartAnswer
 
 // A tick on a channel of the tracker that the arrays hold, which become those of the next one; a refusal leaves them as they stood.
 #[no_mangle]
-pub extern "C" fn orizhgum_tick_in(
+pub extern "C" fn orizhgum_tick_in<'a>(
     count: usize,
-    numbers: &[u16; Tracker::CHANNELS],
+    numbers: &'a [u16; Tracker::CHANNELS],
+    from: &'a [u64; Tracker::CHANNELS],
     highest: &mut [u64; Tracker::CHANNELS],
     ended: &mut [u8; Tracker::CHANNELS],
     counts: &mut [usize; Tracker::CHANNELS],
@@ -64,11 +67,12 @@ pub extern "C" fn orizhgum_tick_in(
     channel: u16,
     number: i64,
 ) -> u32
-    ensures { λ r. ⌜ replied r (made (atExit count numbers highest ended counts first last)) ≡ arrivalAnswer (arrive (made (atEntry count numbers highest ended counts first last)) (on channel (tick number))) ⌝ }
+    ensures { λ r. ⌜ replied r (made (atExit count numbers from highest ended counts first last)) ≡ arrivalAnswer (arrive (made (atEntry count numbers from highest ended counts first last)) (on channel (tick number))) ⌝ }
 {
     verdict_number(tick_in(
         count,
         numbers,
+        from,
         highest,
         ended,
         counts,
@@ -81,9 +85,10 @@ pub extern "C" fn orizhgum_tick_in(
 
 // A channel heartbeat, in the same way; end 0 is no, anything else yes.
 #[no_mangle]
-pub extern "C" fn orizhgum_heard_in(
+pub extern "C" fn orizhgum_heard_in<'a>(
     count: usize,
-    numbers: &[u16; Tracker::CHANNELS],
+    numbers: &'a [u16; Tracker::CHANNELS],
+    from: &'a [u64; Tracker::CHANNELS],
     highest: &mut [u64; Tracker::CHANNELS],
     ended: &mut [u8; Tracker::CHANNELS],
     counts: &mut [usize; Tracker::CHANNELS],
@@ -93,11 +98,12 @@ pub extern "C" fn orizhgum_heard_in(
     last_number: i64,
     end: u8,
 ) -> u32
-    ensures { λ r. ⌜ replied r (made (atExit count numbers highest ended counts first last)) ≡ arrivalAnswer (arrive (made (atEntry count numbers highest ended counts first last)) (on channel (heartbeat «last_number» (ending end)))) ⌝ }
+    ensures { λ r. ⌜ replied r (made (atExit count numbers from highest ended counts first last)) ≡ arrivalAnswer (arrive (made (atEntry count numbers from highest ended counts first last)) (on channel (heartbeat «last_number» (ending end)))) ⌝ }
 {
     verdict_number(heartbeat_in(
         count,
         numbers,
+        from,
         highest,
         ended,
         counts,

@@ -16,6 +16,7 @@ use wire::answers::PLAIN;
 pub extern "C" fn orizhgum_request_in<'a>(
     count: usize,
     numbers: &'a [u16; Tracker::CHANNELS],
+    from: &'a [u64; Tracker::CHANNELS],
     highest: &'a [u64; Tracker::CHANNELS],
     ended: &'a [u8; Tracker::CHANNELS],
     counts: &'a [usize; Tracker::CHANNELS],
@@ -24,12 +25,13 @@ pub extern "C" fn orizhgum_request_in<'a>(
     channel: u16,
     out: &mut [u8],
 ) -> WriteAnswer
-    ensures { λ r. ⌜ r ≡ requestAnswer (request (made (atEntry count numbers highest ended counts first last)) channel (now (out .entry))) ⌝ }
-    ensures { λ r. ⌜ now (out .exit) ≡ requestLeaves (made (atEntry count numbers highest ended counts first last)) channel (now (out .entry)) ⌝ }
+    ensures { λ r. ⌜ r ≡ requestAnswer (request (made (atEntry count numbers from highest ended counts first last)) channel (now (out .entry))) ⌝ }
+    ensures { λ r. ⌜ now (out .exit) ≡ requestLeaves (made (atEntry count numbers from highest ended counts first last)) channel (now (out .entry)) ⌝ }
 {
     let requested = request_in(
         count,
         numbers,
+        from,
         highest,
         ended,
         counts,

@@ -15,11 +15,11 @@ use Rattle.gaps.specs.Limits.{runLimit, mostNumber}
 use Rattle.gaps.proofs.Numbers.{and-split}
 use Rattle.tracker.specs.declared.Tracker.{Tracker}
 use Rattle.seats.specs.declared.Seat.{Seat}
-use Rattle.seats.specs.Places.{lowestNumber, span}
+use Rattle.seats.specs.Places.{span}
 use Rattle.seats.specs.Arrays.{Arrays}
 use Rattle.seats.specs.Seat.{seatOf}
 use Rattle.tracker.specs.Places.{made, channelAt}
-use Rattle.seats.specs.Rules.{soundRow}
+use Rattle.seats.specs.Rules.{leastFirst, isFirst, starts, soundRow}
 use Rattle.tracker.specs.Rules.{wellFormed}
 use Rattle.tracker.specs.Arrived.{place}
 use Rattle.tracker.specs.Inside.{SoundIn}
@@ -78,27 +78,30 @@ pub record Lies (r : Run) : Type 0 where
   pub order : r .first ≤ r .last
   pub high : r .last ≤ mostNumber
 
-lies-in : (h : ℕ) (l : List Run) (r : Run) → h ≤ mostNumber → canon lowestNumber h l ≡ true → foremost l ≡ lost r → Lies r
+lies-in : (from h : ℕ) (l : List Run) (r : Run) → 1 ≤ from → h ≤ mostNumber → canon from h l ≡ true → foremost l ≡ lost r → Lies r
 unfolding canon
-lies-in h [] r m e p = absurd (let z : _≡_ {A = ℕ} 0 1 = cc in omega arith)
-lies-in h (s ∷ l) r m e p =
+lies-in from h [] r s m e p = absurd (let z : _≡_ {A = ℕ} 0 1 = cc in omega arith)
+lies-in from h (s ∷ l) r k m e p =
     let q : s ≡ r = cc in
-    let a = and-split (leb 1 (s .first)) _ e in
+    let a = and-split (leb from (s .first)) _ e in
     let b = and-split (leb (s .first) (s .last)) _ (a .1) in
     let d = and-split (leb (s .last) h) _ (b .1) in
     let n : s .last ≤ h = leb-true (s .last) h (d .0) in
-    let z : Lies s = record { low = leb-true 1 (s .first) (a .0); order = leb-true (s .first) (s .last) (b .0); high = omega arith } in
+    let z : Lies s = record { low = omega (arith, leb-true from (s .first) (a .0)); order = leb-true (s .first) (s .last) (b .0); high = omega arith } in
     rw q at z
 
 lies-row : (t : Tracker) (i : ℕ) (r : Run) → SoundIn t i → foremost (channelAt t i .runs) ≡ lost r → Lies r
 unfolding soundRow
 lies-row t i r w p =
+    let from : ℕ = getD (t .from) i 0 in
     let h : ℕ = getD (t .highest) i 0 in
     let n : ℕ = getD (t .counts) i 0 in
     let a = and-split (leb n runLimit) _ (w .row) in
     let b = and-split (leb h mostNumber) _ (a .1) in
-    let d = and-split (canon lowestNumber h (span (t .first) (t .last) (i * runLimit) n)) _ (b .1) in
-    lies-in h (span (t .first) (t .last) (i * runLimit) n) r (leb-true h mostNumber (b .0)) (d .0) p
+    let c = and-split (starts from h) _ (b .1) in
+    let f = and-split (leb leastFirst from) _ (and-split (isFirst from) _ (c .0) .0) in
+    let d = and-split (canon from h (span (t .first) (t .last) (i * runLimit) n)) _ (c .1) in
+    lies-in from h (span (t .first) (t .last) (i * runLimit) n) r (leb-true 1 from (f .0)) (leb-true h mostNumber (b .0)) (d .0) p
 
 -- a first run that is answered, or none, is the foremost of the channel's runs
 pub record Foremost (t : Tracker) (k : ℕ) (x : Lost) : Type 0 where

@@ -83,6 +83,6 @@ finds-in f l lo h b (suc count) n o =
     go d false e = later f l b count n (sought (suc b) (span f l (suc b) count) n) (leb-false n (getD l b 0) e) d
 
 -- the search of a row within the rules
-pub search-finds : (f l : List ℕ) (i count h n : ℕ) → i < 8 → count ≤ 32 → canon 1 h (span f l (i * 32) count) ≡ true →
+pub search-finds : (f l : List ℕ) (i count lo h n : ℕ) → i < 8 → count ≤ 32 → canon lo h (span f l (i * 32) count) ≡ true →
     (s : Held) → s ≡ search f l i count n → Finds f l (i * 32) count n s
-search-finds f l i count h n p q o s e = rw (e, held-row f l i count n (yes-there i count p q)) (finds-in f l 1 h (i * 32) count n o)
+search-finds f l i count lo h n p q o s e = rw (e, held-row f l i count n (yes-there i count p q)) (finds-in f l lo h (i * 32) count n o)

@@ -5,20 +5,21 @@ use mathlib.Core.Path.{_≡_, refl, ap, sym, _∙_}
 use mathlib.Core.List.{List, [], _∷_, _++_, append-assoc, map}
 use mathlib.Core.Bool.{Bool, true, false}
 use lib.Dec.{leb, eqb}
+use lib.IntN.{ℤ, pos}
 use lib.ListN.{length, take, drop, getD, set, replicate, length-append, length-replicate, length-map, length-set, List·getD-append, List·getD-map, replicate-append-replicate}
 use lib.Seq.{sets, sets-eq, set-append-left, take-at, drop-at, drop-cons}
-use borrow.Author.Tests.{le-leb, ne-eqb}
+use borrow.Author.Tests.{le-leb, leb-true, ne-eqb}
 use Rattle.gaps.specs.declared.Run.{Run}
 use Rattle.gaps.specs.Gaps.{canon}
 use Rattle.gaps.specs.Limits.{mostNumber}
-use Rattle.gaps.specs.Channel.{Channel, fresh}
+use Rattle.gaps.specs.Channel.{Channel, fresh, natural}
 use Rattle.gaps.specs.Built.{firsts, lasts, padded}
 use Rattle.gaps.proofs.Numbers.{and-split}
 use Rattle.tracker.specs.declared.Tracker.{Tracker}
 use Rattle.seats.specs.Places.{span}
 use Rattle.tracker.specs.Places.{arraysOf, mark, channelAt, put}
 use Rattle.seats.specs.Arrays.{Arrays}
-use Rattle.seats.specs.Rules.{allZero, soundRow, soundRows, soundChannels, marks, blank, unused, sound, ascends}
+use Rattle.seats.specs.Rules.{isFirst, firstNumbers, allZero, soundRow, soundRows, soundChannels, marks, blank, unused, sound, ascends}
 use Rattle.tracker.specs.Rules.{wellFormed}
 use Rattle.tracker.specs.SetUp.{blankOf}
 use Rattle.tracker.proofs.Row.{cells, cells-add, cells-length}
@@ -78,6 +79,9 @@ abbrev rows : (List Run → List ℕ) → List Channel → List ℕ
 rows g [] = []
 rows g (c ∷ cs) = padded 32 (g (c .runs)) ++ rows g cs
 
+abbrev begins : List Channel → List ℕ
+begins cs = map (λ (c : Channel). c .from) cs
+
 abbrev highs : List Channel → List ℕ
 highs cs = map (λ (c : Channel). c .highest) cs
 
@@ -92,6 +96,7 @@ holder ns cs =
     record {
       count = length ns;
       numbers = padded 8 ns;
+      from = padded 8 (begins cs);
       highest = padded 8 (highs cs);
       ended = padded 8 (endings cs);
       counts = padded 8 (sizes cs);
@@ -107,8 +112,9 @@ at cs i = getD cs i (fresh 1)
 pub record Good (c : Channel) : Type 0 where
   pub small : length (c .runs) ≤ 32
   pub high : c .highest ≤ mostNumber
-  pub start : c .from ≡ 1
-  pub order : canon 1 (c .highest) (c .runs) ≡ true
+  pub first : isFirst (c .from) ≡ true
+  pub start : c .from ≤ c .highest + 1
+  pub order : canon (c .from) (c .highest) (c .runs) ≡ true
 
 abbrev pub AllGood : List Channel → Type 0
 AllGood [] = Unit
@@ -168,9 +174,21 @@ lasts-length l = length-map l (λ (r : Run). r .last)
 
 -- ---- a record put in its place
 
-pub holder-put : (ns : List ℕ) (cs : List Channel) (i : ℕ) (c : Channel) → AllGood cs → i < length cs → Good c → put (holder ns cs) i c ≡ holder ns (set cs i c)
+begins-same : (cs : List Channel) (i : ℕ) (c : Channel) → c .from ≡ at cs i .from → begins (set cs i c) ≡ begins cs
+begins-same [] i c e = refl
+begins-same (d ∷ cs) zero c e = rw e
+begins-same (d ∷ cs) (suc i) c e = rw (begins-same cs i c e)
+
+begins-at : (cs : List Channel) (i : ℕ) → i < length cs → getD (begins cs) i 0 ≡ at cs i .from
+begins-at [] i h = absurd (omega arith)
+begins-at (c ∷ cs) zero h = refl
+begins-at (c ∷ cs) (suc i) h = begins-at cs i (omega arith)
+
+-- of the same first number
+pub holder-put : (ns : List ℕ) (cs : List Channel) (i : ℕ) (c : Channel) → AllGood cs → i < length cs → Good c → c .from ≡ at cs i .from →
+    put (holder ns cs) i c ≡ holder ns (set cs i c)
 unfolding put
-holder-put ns cs i c w h g =
+holder-put ns cs i c w h g s =
     let z = replicate {A = ℕ} (256 - length cs * 32) 0 in
     let n = length-set cs i c in
     let a = set-append-left (highs cs) (replicate {A = ℕ} (8 - length (highs cs)) 0) i (c .highest) (rw (length-map cs (λ (d : Channel). d .highest)) h) in
@@ -182,6 +200,7 @@ holder-put ns cs i c w h g =
       d,
       rows-put firsts firsts-length cs i c z w h (g .small),
       rows-put lasts lasts-length cs i c z w h (g .small),
+      begins-same cs i c s,
       map-set (λ (d : Channel). d .highest) cs i c,
       map-set (λ (d : Channel). mark (d .ended)) cs i c,
       map-set (λ (d : Channel). length (d .runs)) cs i c,
@@ -235,19 +254,23 @@ module _ (f l : List ℕ) (b : ℕ) (rs : List Run) (s : length rs ≤ 32) (p : 
       (ap (cells f b) (sym x) ∙ row-front f b (firsts rs) (omega arith) p)
       (ap (cells l b) (sym y) ∙ row-front l b (lasts rs) (omega arith) q)
 
-  row-sound : (h : ℕ) → h ≤ mostNumber → canon 1 h rs ≡ true → soundRow h (length rs) f l b ≡ true
+  row-sound : (from h : ℕ) → h ≤ mostNumber → isFirst from ≡ true → from ≤ h + 1 → canon from h rs ≡ true → soundRow from h (length rs) f l b ≡ true
   unfolding soundRow
-  row-sound h m c =
+  row-sound from h m a d c =
       let z = zeros-pass f l (b + length rs) (32 - length rs)
       (rw (firsts-length rs) at (row-rest f b (firsts rs) (omega (arith, firsts-length rs)) p))
       (rw (lasts-length rs) at (row-rest l b (lasts rs) (omega (arith, lasts-length rs)) q)) in
-      rw (le-leb (length rs) 32 s, le-leb h mostNumber m, row-runs, c, z)
+      rw (le-leb (length rs) 32 s, le-leb h mostNumber m, a, le-leb from (h + 1) d, row-runs, c, z)
 
 module _ (ns : List ℕ) (cs : List Channel) (w : AllGood cs) where
   high-at : (i : ℕ) → i < length cs → getD (holder ns cs .highest) i 0 ≡ at cs i .highest
   high-at i h =
       List·getD-append (highs cs) (replicate (8 - length (highs cs)) 0) 0 i (rw (length-map cs (λ (d : Channel). d .highest)) h)
       ∙ List·getD-map (λ (d : Channel). d .highest) cs i (fresh 1)
+
+  from-at : (i : ℕ) → i < length cs → getD (holder ns cs .from) i 0 ≡ at cs i .from
+  from-at i h =
+      List·getD-append (begins cs) (replicate (8 - length (begins cs)) 0) 0 i (rw (length-map cs (λ (d : Channel). d .from)) h) ∙ begins-at cs i h
 
   size-at : (i : ℕ) → i < length cs → getD (holder ns cs .counts) i 0 ≡ length (at cs i .runs)
   size-at i h =
@@ -276,19 +299,19 @@ module _ (ns : List ℕ) (cs : List Channel) (w : AllGood cs) where
       let g = good-at cs i w h in
       let r : channelAt (holder ns cs) i .runs ≡ at cs i .runs =
       rw (size-at i h) (row-runs (holder ns cs .first) (holder ns cs .last) (i * 32) (at cs i .runs) (g .small) (first-row i h) (last-row i h)) in
-      λ x. record { from = sym (g .start) x; highest = high-at i h x; ended = mark-at i h x; runs = r x }
+      λ x. record { from = from-at i h x; highest = high-at i h x; ended = mark-at i h x; runs = r x }
 
   holder-row : (i : ℕ) → i < length cs →
-      soundRow (getD (holder ns cs .highest) i 0) (getD (holder ns cs .counts) i 0) (holder ns cs .first) (holder ns cs .last) (i * 32) ≡ true
+      soundRow (getD (holder ns cs .from) i 0) (getD (holder ns cs .highest) i 0) (getD (holder ns cs .counts) i 0) (holder ns cs .first) (holder ns cs .last) (i * 32) ≡ true
   holder-row i h =
       let g = good-at cs i w h in
-      rw (high-at i h, size-at i h) (row-sound (holder ns cs .first) (holder ns cs .last) (i * 32) (at cs i .runs) (g .small) (first-row i h) (last-row i h) (at cs i .highest) (g .high) (g .order))
+      rw (from-at i h, high-at i h, size-at i h) (row-sound (holder ns cs .first) (holder ns cs .last) (i * 32) (at cs i .runs) (g .small) (first-row i h) (last-row i h) (at cs i .from) (at cs i .highest) (g .high) (g .first) (g .start) (g .order))
 
 -- ---- within the rules
 
 rows-true : (a : Arrays) (ns : List ℕ) (lo i n : ℕ) → i + n ≡ length ns → ascends lo (drop i ns) ≡ true →
     ((j : ℕ) → j < length ns → getD (a .numbers) j 0 ≡ getD ns j 0) →
-    ((j : ℕ) → j < length ns → soundRow (getD (a .highest) j 0) (getD (a .counts) j 0) (a .first) (a .last) (j * 32) ≡ true) →
+    ((j : ℕ) → j < length ns → soundRow (getD (a .from) j 0) (getD (a .highest) j 0) (getD (a .counts) j 0) (a .first) (a .last) (j * 32) ≡ true) →
     soundRows a lo i n ≡ true
 unfolding soundRows ascends
 rows-true a ns lo i zero e o p q = refl
@@ -311,13 +334,13 @@ unfolding marks
 marks-true es i zero h = refl
 marks-true es i (suc n) h = rw (le-leb (getD es i 0) 1 (h i)) (marks-true es (suc i) n h)
 
-blank-true : (a : Arrays) (i n : ℕ) → ((j : ℕ) → i ≤ j → getD (a .numbers) j 0 ≡ 0) → ((j : ℕ) → i ≤ j → getD (a .highest) j 0 ≡ 0) →
+blank-true : (a : Arrays) (i n : ℕ) → ((j : ℕ) → i ≤ j → getD (a .numbers) j 0 ≡ 0) → ((j : ℕ) → i ≤ j → getD (a .from) j 0 ≡ 0) → ((j : ℕ) → i ≤ j → getD (a .highest) j 0 ≡ 0) →
     ((j : ℕ) → i ≤ j → getD (a .ended) j 0 ≡ 0) → ((j : ℕ) → i ≤ j → getD (a .counts) j 0 ≡ 0) → blank a i n ≡ true
 unfolding blank
-blank-true a i zero p q r s = refl
-blank-true a i (suc n) p q r s =
-    rw (p i (omega arith), q i (omega arith), r i (omega arith), s i (omega arith))
-    (blank-true a (suc i) n (λ j h. p j (omega arith)) (λ j h. q j (omega arith)) (λ j h. r j (omega arith)) (λ j h. s j (omega arith)))
+blank-true a i zero p f q r s = refl
+blank-true a i (suc n) p f q r s =
+    rw (p i (omega arith), f i (omega arith), q i (omega arith), r i (omega arith), s i (omega arith))
+    (blank-true a (suc i) n (λ j h. p j (omega arith)) (λ j h. f j (omega arith)) (λ j h. q j (omega arith)) (λ j h. r j (omega arith)) (λ j h. s j (omega arith)))
 
 -- a list of numbers that a set-up takes
 pub record Listed (ns : List ℕ) : Type 0 where
@@ -336,6 +359,7 @@ holder-well ns cs o e w =
     (λ j h. holder-row ns cs w j (omega arith)) in
     let b = blank-true (arraysOf t) n (8 - n)
     (λ j h. getD-pad ns (8 - length ns) j 0 h)
+    (λ j h. getD-pad (begins cs) (8 - length (begins cs)) j 0 (omega (arith, length-map cs (λ (c : Channel). c .from))))
     (λ j h. getD-pad (highs cs) (8 - length (highs cs)) j 0 (omega (arith, length-map cs (λ (c : Channel). c .highest))))
     (λ j h. getD-pad (endings cs) (8 - length (endings cs)) j 0 (omega (arith, length-map cs (λ (c : Channel). mark (c .ended)))))
     (λ j h. getD-pad (sizes cs) (8 - length (sizes cs)) j 0 (omega (arith, length-map cs (λ (c : Channel). length (c .runs))))) in
@@ -346,41 +370,56 @@ holder-well ns cs o e w =
 
 -- ---- the tracker that a set-up gives
 
-good-fresh : Good (fresh 1)
-unfolding canon
-good-fresh = record { small = omega arith; high = omega arith; start = refl; order = refl }
+-- the records of channels that nothing has reached
+abbrev pub start : List ℤ → List Channel
+start fs = map (λ (z : ℤ). fresh (natural z)) fs
 
-pub good-start : (n : ℕ) → AllGood (replicate n (fresh 1))
-good-start zero = tt
-good-start (suc n) = (good-fresh, good-start n)
+pub first-at : (fs : List ℤ) (i : ℕ) → firstNumbers fs ≡ true → i < length fs → (1 ≤ natural (getD fs i (pos 0))) × (natural (getD fs i (pos 0)) ≤ mostNumber)
+unfolding firstNumbers
+first-at [] i e h = absurd (omega arith)
+first-at (z ∷ fs) zero e h =
+    let a = and-split (leb 1 (natural z)) _ (and-split (isFirst (natural z)) _ e .0) in
+    (leb-true 1 (natural z) (a .0), leb-true (natural z) mostNumber (a .1))
+first-at (z ∷ fs) (suc i) e h = first-at fs i (and-split (isFirst (natural z)) _ e .1) (omega arith)
 
-map-replicate : {A B : Type 0} (f : A → B) (n : ℕ) (a : A) → map f (replicate n a) ≡ replicate n (f a)
-map-replicate f zero a = refl
-map-replicate f (suc n) a = rw (map-replicate f n a)
+pub start-at : (fs : List ℤ) (i : ℕ) → i < length fs → at (start fs) i ≡ fresh (natural (getD fs i (pos 0)))
+start-at [] i h = absurd (omega arith)
+start-at (z ∷ fs) zero h = refl
+start-at (z ∷ fs) (suc i) h = start-at fs i (omega arith)
 
-pad-zeros : {A : Type 0} (n k : ℕ) (a : A) → n ≤ k → replicate n a ++ replicate (k - length (replicate n a)) a ≡ replicate k a
-pad-zeros n k a h =
+-- a field of all of them
+field : (g : Channel → ℕ) (k : ℤ → ℕ) → ((z : ℤ) → g (fresh (natural z)) ≡ k z) → (fs : List ℤ) → map g (start fs) ≡ map k fs
+field g k e [] = refl
+field g k e (z ∷ fs) = rw (e z, field g k e fs)
+
+zeros : (g : Channel → ℕ) → ((z : ℤ) → g (fresh (natural z)) ≡ 0) → (fs : List ℤ) → map g (start fs) ≡ replicate (length fs) 0
+zeros g e [] = refl
+zeros g e (z ∷ fs) = rw (e z, zeros g e fs)
+
+pad-zeros : (n k : ℕ) → n ≤ k → replicate {A = ℕ} n 0 ++ replicate (k - length (replicate {A = ℕ} n 0)) 0 ≡ replicate k 0
+pad-zeros n k h =
     let e : n + (k - n) ≡ k = omega arith in
-    rw (length-replicate n a) (replicate-append-replicate n (k - n) a ∙ ap (λ (m : ℕ). replicate m a) e)
+    rw (length-replicate {A = ℕ} n 0) (replicate-append-replicate {A = ℕ} n (k - n) 0 ∙ ap (λ (m : ℕ). replicate m 0) e)
 
-rows-start : (g : List Run → List ℕ) → g [] ≡ [] → (n : ℕ) → rows g (replicate n (fresh 1)) ≡ replicate (n * 32) 0
-rows-start g p zero = refl
-rows-start g p (suc n) =
-    let e : 32 + n * 32 ≡ suc n * 32 = omega arith in
-    rw (p, rows-start g p n, ← e) (replicate-append-replicate {A = ℕ} 32 (n * 32) 0)
+rows-start : (g : List Run → List ℕ) → g [] ≡ [] → (fs : List ℤ) → rows g (start fs) ≡ replicate (length fs * 32) 0
+rows-start g p [] = refl
+rows-start g p (z ∷ fs) =
+    let e : 32 + length fs * 32 ≡ suc (length fs) * 32 = omega arith in
+    rw (p, rows-start g p fs, ← e) (replicate-append-replicate {A = ℕ} 32 (length fs * 32) 0)
 
-pub holder-start : (ns : List ℕ) → length ns ≤ 8 → blankOf ns ≡ holder ns (replicate (length ns) (fresh 1))
-holder-start ns h =
-    let n = length ns in
+pub holder-start : (ns : List ℕ) (fs : List ℤ) → length fs ≤ 8 → blankOf ns fs ≡ holder ns (start fs)
+holder-start ns fs h =
+    let n = length fs in
     let e : n * 32 + (256 - n * 32) ≡ 256 = omega arith in
     let z : replicate (n * 32) 0 ++ replicate (256 - n * 32) 0 ≡ replicate {A = ℕ} 256 0 = replicate-append-replicate {A = ℕ} (n * 32) (256 - n * 32) 0 ∙ ap (λ (m : ℕ). replicate m 0) e in
     rw (
-      map-replicate (λ (c : Channel). c .highest) n (fresh 1),
-      map-replicate (λ (c : Channel). mark (c .ended)) n (fresh 1),
-      map-replicate (λ (c : Channel). length (c .runs)) n (fresh 1),
-      rows-start firsts refl n,
-      rows-start lasts refl n,
-      length-replicate n (fresh 1),
-      pad-zeros {A = ℕ} n 8 0 h,
+      field (λ (c : Channel). c .from) (λ (z : ℤ). natural z - 0) (λ y. omega arith) fs,
+      field (λ (c : Channel). c .highest) (λ (z : ℤ). natural z - 1) (λ y. refl) fs,
+      zeros (λ (c : Channel). mark (c .ended)) (λ y. refl) fs,
+      zeros (λ (c : Channel). length (c .runs)) (λ y. refl) fs,
+      rows-start firsts refl fs,
+      rows-start lasts refl fs,
+      length-map fs (λ (z : ℤ). fresh (natural z)),
+      pad-zeros n 8 h,
       z,
     )

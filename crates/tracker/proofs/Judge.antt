@@ -15,12 +15,12 @@ use Rattle.wire.specs.Answer.{Answer, accepted, refused, guard}
 use Rattle.gaps.specs.declared.Run.{Run}
 use Rattle.gaps.specs.Gaps.{run, larger, has, cut, cutAll, grow, fill}
 use Rattle.wire.specs.Refusal.{numberTooLow, tableFull}
-use Rattle.gaps.specs.Channel.{Channel, changed, Event, tick, heartbeat, ArrivalSaid, new, late, duplicate, heard, announced, taken, tooLow, judgeEvent, natural}
+use Rattle.gaps.specs.Channel.{Channel, changed, Event, tick, heartbeat, ArrivalSaid, new, late, duplicate, heard, beforeStart, announced, taken, tooLow, tooEarly, judgeEvent, natural}
 use Rattle.gaps.proofs.Numbers.{larger-is}
 use Rattle.gaps.proofs.Cut.{cut-low, cut-high, cut-whole, cut-front, cut-back, cut-mid}
 use Rattle.gaps.proofs.Sets.{Canon, canon-yes}
 use Rattle.gaps.proofs.Exact.{ticked-new, ticked-late, ticked-again}
-use Rattle.gaps.proofs.Alone.{judged-low}
+use Rattle.gaps.proofs.Alone.{judged-low, judged-early}
 use Rattle.tracker.specs.declared.Tracker.{Tracker}
 use Rattle.rows.specs.declared.Gap.{Gap}
 use Rattle.tracker.specs.Places.{made, mark, channelAt, put}
@@ -40,7 +40,7 @@ use Rattle.tracker.specs.Inside.{SoundIn, Judges, stepped, storedOrFull,
 use Rattle.tracker.proofs.Told.{Room, Finds, finds-no, finds-run}
 use Rattle.tracker.proofs.Row.{span-length, span-at}
 use Rattle.tracker.proofs.Hold.{held-at, search-finds}
-use Rattle.tracker.proofs.Signed.{natural-one, natural-pos}
+use Rattle.gaps.proofs.Signed.{natural-one, natural-pos}
 use Rattle.tracker.proofs.Seated.{well-row, arrived-10, arrived-7, arrived-at, seat-sound, seat-place}
 use Rattle.tracker.proofs.Put.{RowOf, mended, mark-same, put-pushed, put-set, put-runs, put-same, kept-row}
 use Rattle.tracker.proofs.Shift.{parts-length, put-shut, put-cleft}
@@ -56,11 +56,11 @@ module _ (t : Tracker) (i : ℕ) (a : Answer ArrivalSaid) (h : ℕ) (e : Bool) (
   unfolding storedOrFull
   stored-fits p = rw (le-ltb 32 (length l) p)
 
--- an event that 8 does not refuse
-settled-stored : (t : Tracker) (i : ℕ) (c : Channel) (e : Event) → tooLow e ≡ false →
+-- an event that 8 does not refuse, and that is not before start
+settled-stored : (t : Tracker) (i : ℕ) (c : Channel) (e : Event) → tooLow e ≡ false → tooEarly c e ≡ false →
     settled t i (judgeEvent c e) ≡ storedOrFull t i (accepted (taken c e .said)) (taken c e .next .highest) (taken c e .next .ended) (taken c e .next .runs)
 unfolding judgeEvent storedOrFull guard put
-settled-stored t i c e p = rw p (go (ltb 32 (length (taken c e .next .runs))))
+settled-stored t i c e p q = rw (p, q) (go (ltb 32 (length (taken c e .next .runs))))
   where
     go : (b : Bool) → settled t i (guard b (refused tableFull []) (accepted (taken c e))) ≡
         cond b (record { said = refused tableFull []; next = t }) (record { said = accepted (taken c e .said); next = put t i (taken c e .next) })
@@ -93,13 +93,19 @@ module _ (t : Tracker) (i : ℕ) (w : RowOf t i) where
   runs-fit : length (channelAt t i .runs) ≤ 32
   runs-fit = rw (span-length (t .first) (t .last) (i * 32) (getD (t .counts) i 0)) (w .room)
 
-  module _ (n : ℕ) (p : 1 ≤ n) where
-    in-range : tooLow (tick (pos n)) ≡ false
-    in-range = le-ltb n 1 p
+  -- below the first number nothing changes
+  pub tick-early : (n : ℕ) → 1 ≤ n → n < getD (t .from) i 0 → stepped i (tick (pos n)) t ≡ record { said = accepted beforeStart; next = t }
+  tick-early n p s =
+      ap (settled t i) (judged-early (channelAt t i) (tick (pos n)) (le-ltb n 1 p) (lt-ltb n (getD (t .from) i 0) s)) ∙ rw (put-same t i w)
+
+  module _ (n : ℕ) (p : 1 ≤ n) (s : getD (t .from) i 0 ≤ n) where
+    by-step : settled t i (judgeEvent (channelAt t i) (tick (pos n))) ≡
+        storedOrFull t i (accepted (taken (channelAt t i) (tick (pos n)) .said)) (taken (channelAt t i) (tick (pos n)) .next .highest) (taken (channelAt t i) (tick (pos n)) .next .ended) (taken (channelAt t i) (tick (pos n)) .next .runs)
+    by-step = settled-stored t i (channelAt t i) (tick (pos n)) (le-ltb n 1 p) (le-ltb n (getD (t .from) i 0) s)
 
     ahead : getD (t .highest) i 0 < n → stepped i (tick (pos n)) t ≡
         storedOrFull t i (accepted new) n (channelAt t i .ended) (fill (channelAt t i .runs) (channelAt t i .highest) (n - 1))
-    ahead h = settled-stored t i (channelAt t i) (tick (pos n)) in-range ∙ rw (ticked-new (channelAt t i) n h)
+    ahead h = by-step ∙ rw (ticked-new (channelAt t i) n h)
 
     -- the next number: the highest alone changes
     pub tick-next : getD (t .highest) i 0 ≡ n - 1 → stepped i (tick (pos n)) t ≡
@@ -108,6 +114,7 @@ module _ (t : Tracker) (i : ℕ) (w : RowOf t i) where
           next = record {
             count = t .count;
             numbers = t .numbers;
+            from = t .from;
             highest = set (t .highest) i n;
             ended = t .ended;
             counts = t .counts;
@@ -125,18 +132,18 @@ module _ (t : Tracker) (i : ℕ) (w : RowOf t i) where
 
     pub tick-late : n ≤ getD (t .highest) i 0 → has (channelAt t i .runs) n ≡ true → stepped i (tick (pos n)) t ≡
         storedOrFull t i (accepted late) (channelAt t i .highest) (channelAt t i .ended) (cutAll (channelAt t i .runs) n)
-    tick-late h q = settled-stored t i (channelAt t i) (tick (pos n)) in-range ∙ rw (ticked-late (channelAt t i) n h q)
+    tick-late h q = by-step ∙ rw (ticked-late (channelAt t i) n h q)
 
     pub tick-again : n ≤ getD (t .highest) i 0 → has (channelAt t i .runs) n ≡ false → stepped i (tick (pos n)) t ≡ record { said = accepted duplicate; next = t }
     tick-again h q =
-        settled-stored t i (channelAt t i) (tick (pos n)) in-range
+        by-step
         ∙ rw (ticked-again (channelAt t i) n h q, stored-fits t i (accepted duplicate) (channelAt t i .highest) (channelAt t i .ended) (channelAt t i .runs) runs-fit, put-same t i w)
 
   module _ (m : ℕ) (end : Bool) where
     heard-at : stepped i (heartbeat (pos m) end) t ≡
         storedOrFull t i (accepted heard) (larger (channelAt t i .highest) m) (channelAt t i .ended || end) (fill (channelAt t i .runs) (channelAt t i .highest) m)
     unfolding announced
-    heard-at = settled-stored t i (channelAt t i) (heartbeat (pos m) end) (le-ltb m 0 zero-le)
+    heard-at = settled-stored t i (channelAt t i) (heartbeat (pos m) end) (le-ltb m 0 zero-le) refl
 
     pub heard-ahead : getD (t .highest) i 0 < m → stepped i (heartbeat (pos m) end) t ≡
         storedOrFull t i (accepted heard) m (channelAt t i .ended || end) (grow (channelAt t i .runs) (channelAt t i .highest) m)
@@ -149,6 +156,7 @@ module _ (t : Tracker) (i : ℕ) (w : RowOf t i) where
           next = record {
             count = t .count;
             numbers = t .numbers;
+            from = t .from;
             highest = t .highest;
             ended = set (t .ended) i (mark (channelAt t i .ended || end));
             counts = t .counts;
@@ -199,7 +207,7 @@ module _ (t : Tracker) (i n j : ℕ) (x : Run) (w : RowOf t i) (m : j < getD (t 
       let s = span-length (t .first) (t .last) (i * 32) (getD (t .counts) i 0) in
       let a = span-at (t .first) (t .last) (i * 32) (getD (t .counts) i 0) j m in
       let c : cutAll l n ≡ set l j x =
-      cut-at 1 (channelAt t i .highest) l j n (canon-yes 1 (channelAt t i .highest) l (w .order)) (rw s m) (rw a f) (rw a g)
+      cut-at (w .from) (channelAt t i .highest) l j n (canon-yes (w .from) (channelAt t i .highest) l (w .order)) (rw s m) (rw a f) (rw a g)
       ∙ rw (a, k) (sym (set-split l j x (rw s m))) in
       rw (
         c,
@@ -222,7 +230,7 @@ module _ (t : Tracker) (i n j : ℕ) (w : RowOf t i) (a : i < 8) (m : j < getD (
       let l = channelAt t i .runs in
       let s = span-length (t .first) (t .last) (i * 32) (getD (t .counts) i 0) in
       let d = span-at (t .first) (t .last) (i * 32) (getD (t .counts) i 0) j m in
-      cut-at 1 (channelAt t i .highest) l j n (canon-yes 1 (channelAt t i .highest) l (w .order)) (rw s m) (rw d f) (rw d g) ∙ rw (d, k)
+      cut-at (w .from) (channelAt t i .highest) l j n (canon-yes (w .from) (channelAt t i .highest) l (w .order)) (rw s m) (rw d f) (rw d g) ∙ rw (d, k)
 
   pub tick-shut : cut held n ≡ [] →
       storedOrFull t i (accepted late) (channelAt t i .highest) (channelAt t i .ended) (cutAll (channelAt t i .runs) n) ≡ record { said = accepted late; next = shut t i (i * 32 + j) }
@@ -266,18 +274,18 @@ module _ (t : Tracker) (i n j : ℕ) (w : RowOf t i) (a : i < 8) (m : j < getD (
 abbrev pub Behind : Tracker → ℕ → ℕ → Held → Type 0
 Behind t i n s = Changeable s (getD (t .counts) i 0) × (stepped i (tick (pos n)) t ≡ lateAs s i n t)
 
-behind : (t : Tracker) (i n : ℕ) → RowOf t i → i < 8 → 1 ≤ n → n ≤ getD (t .highest) i 0 → (s : Held) →
+behind : (t : Tracker) (i n : ℕ) → RowOf t i → i < 8 → 1 ≤ n → getD (t .from) i 0 ≤ n → n ≤ getD (t .highest) i 0 → (s : Held) →
     Finds (t .first) (t .last) (i * 32) (getD (t .counts) i 0) n s → Behind t i n s
 unfolding leftAt
-behind t i n w a p h s (finds-no e) = (tt, tick-again t i w n p h e)
-behind t i n w a p h s (finds-run j m f g) =
+behind t i n w a p k h s (finds-no e) = (tt, tick-again t i w n p k h e)
+behind t i n w a p low h s (finds-run j m f g) =
     go (ltb n (r .first)) refl (eqb n (r .first)) refl (ltb n (r .last)) refl (eqb n (r .last)) refl
   where
     r : Run
     r = run (getD (t .first) (i * 32 + j) 0) (getD (t .last) (i * 32 + j) 0)
 
     late-by : {o : Outcome} → storedOrFull t i (accepted late) (channelAt t i .highest) (channelAt t i .ended) (cutAll (channelAt t i .runs) n) ≡ o → stepped i (tick (pos n)) t ≡ o
-    late-by e = tick-late t i w n p h (held-at (t .first) (t .last) (i * 32) (getD (t .counts) i 0) j n m f g) ∙ e
+    late-by e = tick-late t i w n p low h (held-at (t .first) (t .last) (i * 32) (getD (t .counts) i 0) j n m f g) ∙ e
 
     in-row : i * 32 + j < 256
     in-row = omega (arith, w .room)
@@ -297,10 +305,10 @@ behind t i n w a p h s (finds-run j m f g) =
         (in-row, full (eqb (getD (t .counts) i 0) 32) refl (cut-mid r n (omega (arith, eqb-false n (r .first) c)) (omega (arith, eqb-false n (r .last) e))))
 
 -- by what the search answered
-pub sought : (t : Tracker) (i n : ℕ) → SoundIn t i → 1 ≤ n → n ≤ getD (t .highest) i 0 → (s : Held) → s ≡ search (t .first) (t .last) i (getD (t .counts) i 0) n → Behind t i n s
-sought t i n k p h s e =
+pub sought : (t : Tracker) (i n : ℕ) → SoundIn t i → 1 ≤ n → getD (t .from) i 0 ≤ n → n ≤ getD (t .highest) i 0 → (s : Held) → s ≡ search (t .first) (t .last) i (getD (t .counts) i 0) n → Behind t i n s
+sought t i n k p b h s e =
     let w = kept-row k in
-    behind t i n w (k .place) p h s (search-finds (t .first) (t .last) i (getD (t .counts) i 0) (getD (t .highest) i 0) n (k .place) (w .room) (w .order) s e)
+    behind t i n w (k .place) p b h s (search-finds (t .first) (t .last) i (getD (t .counts) i 0) (w .from) (getD (t .highest) i 0) n (k .place) (w .room) (w .order) s e)
 
 -- what was found is this
 pub told-fits : (count : ℕ) {x s : Held} → s ≡ x → Changeable s count → Changeable x count

@@ -1,6 +1,6 @@
-pub mod Signed
 pub mod Row
 pub mod Begin
+pub mod Lowered
 pub mod Told
 pub mod Hold
 pub mod Room

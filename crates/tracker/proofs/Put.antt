@@ -17,35 +17,47 @@ use Rattle.gaps.proofs.Numbers.{and-split}
 use Rattle.tracker.specs.declared.Tracker.{Tracker}
 use Rattle.seats.specs.Places.{span}
 use Rattle.tracker.specs.Places.{mark, channelAt, put}
-use Rattle.seats.specs.Rules.{soundRow}
+use Rattle.seats.specs.Rules as rules
+use Rattle.seats.specs.Rules.{isFirst, soundRow}
 use Rattle.tracker.specs.Inside.{SoundAt}
 use Rattle.tracker.proofs.Row.{cells, sets-same, sets-set, pad-row, pad-push, pad-set, span-firsts, span-lasts, span-length, span-take, zero-places}
 
 -- ---- what a row within the rules tells
 
--- n runs from place b on, up to h, and a mark are within the rules
+-- n runs from place b on, from some number up to h, and a mark are within the rules
 pub record Within (h e n : ℕ) (f l : List ℕ) (b : ℕ) : Type 0 where
   pub mark : e ≤ 1
   pub room : n ≤ 32
   pub high : h ≤ mostNumber
-  pub order : canon 1 h (span f l b n) ≡ true
+  pub from : ℕ
+  pub order : canon from h (span f l b n) ≡ true
   pub firsts-zero : cells f (b + n) (32 - n) ≡ replicate (32 - n) 0
   pub lasts-zero : cells l (b + n) (32 - n) ≡ replicate (32 - n) 0
 
-pub row-within : (h e n : ℕ) (f l : List ℕ) (b : ℕ) → e ≤ 1 → soundRow h n f l b ≡ true → Within h e n f l b
+pub row-within : (from h e n : ℕ) (f l : List ℕ) (b : ℕ) → e ≤ 1 → soundRow from h n f l b ≡ true → Within h e n f l b
 unfolding soundRow
-row-within h e n f l b m s =
+row-within from h e n f l b m s =
     let p = and-split (leb n 32) _ s in
     let q = and-split (leb h mostNumber) _ (p .1) in
-    let r = and-split (canon 1 h (span f l b n)) _ (q .1) in
+    let d = and-split (rules.starts from h) _ (q .1) in
+    let r = and-split (canon from h (span f l b n)) _ (d .1) in
     let z = zero-places f l (b + n) (32 - n) (r .1) in
-    record { mark = m; room = leb-true n 32 (p .0); high = leb-true h mostNumber (q .0); order = r .0; firsts-zero = z .0; lasts-zero = z .1 }
+    record { mark = m; room = leb-true n 32 (p .0); high = leb-true h mostNumber (q .0); from = from; order = r .0; firsts-zero = z .0; lasts-zero = z .1 }
 
 abbrev pub RowOf : Tracker → ℕ → Type 0
 RowOf t i = Within (getD (t .highest) i 0) (getD (t .ended) i 0) (getD (t .counts) i 0) (t .first) (t .last) (i * 32)
 
-pub kept-row : {h e c f l : List ℕ} {i : ℕ} → SoundAt h e c f l i → Within (getD h i 0) (getD e i 0) (getD c i 0) f l (i * 32)
-kept-row {h} {e} {c} {f} {l} {i} k = row-within (getD h i 0) (getD e i 0) (getD c i 0) f l (i * 32) (k .mark) (k .row)
+pub kept-row : {from : ℕ} {h e c f l : List ℕ} {i : ℕ} → SoundAt from h e c f l i → Within (getD h i 0) (getD e i 0) (getD c i 0) f l (i * 32)
+kept-row {from} {h} {e} {c} {f} {l} {i} k = row-within from (getD h i 0) (getD e i 0) (getD c i 0) f l (i * 32) (k .mark) (k .row)
+
+-- a channel's first number is at most one above its highest
+pub starts : {from : ℕ} {h e c f l : List ℕ} {i : ℕ} → SoundAt from h e c f l i → from ≤ getD h i 0 + 1
+unfolding soundRow
+starts {from} {h} {e} {c} {f} {l} {i} k =
+    let top : ℕ = getD h i 0 in
+    let p = and-split (leb (getD c i 0) 32) _ (k .row) in
+    let q = and-split (leb top mostNumber) _ (p .1) in
+    leb-true from (top + 1) (and-split (isFirst from) _ (and-split (rules.starts from top) _ (q .1) .0) .1)
 
 -- ---- the ended mark
 
@@ -66,6 +78,7 @@ mended t i highest ended count p x =
     record {
       count = t .count;
       numbers = t .numbers;
+      from = t .from;
       highest = set (t .highest) i highest;
       ended = set (t .ended) i (mark ended);
       counts = set (t .counts) i count;
@@ -135,6 +148,7 @@ module _ (t : Tracker) (i : ℕ) (w : RowOf t i) where
       record {
         count = t .count;
         numbers = t .numbers;
+        from = t .from;
         highest = set (t .highest) i h;
         ended = set (t .ended) i (mark e);
         counts = t .counts;

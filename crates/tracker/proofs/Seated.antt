@@ -23,15 +23,15 @@ use Rattle.tracker.specs.Inside.{SoundIn}
 use Rattle.seats.proofs.Heads.{marks-at, sound-count}
 
 rows-at : (a : Arrays) (lo i n j : ℕ) → soundRows a lo i n ≡ true → j < n →
-    soundRow (getD (a .highest) (i + j) 0) (getD (a .counts) (i + j) 0) (a .first) (a .last) ((i + j) * 32) ≡ true
+    soundRow (getD (a .from) (i + j) 0) (getD (a .highest) (i + j) 0) (getD (a .counts) (i + j) 0) (a .first) (a .last) ((i + j) * 32) ≡ true
 unfolding soundRows
 rows-at a lo i zero j e h = absurd (omega arith)
 rows-at a lo i (suc n) zero e h =
     let g : i + 0 ≡ i = omega arith in
-    rw g (and-split (soundRow (getD (a .highest) i 0) (getD (a .counts) i 0) (a .first) (a .last) (i * 32)) _ (and-split (leb lo (getD (a .numbers) i 0)) _ e .1) .0)
+    rw g (and-split (soundRow (getD (a .from) i 0) (getD (a .highest) i 0) (getD (a .counts) i 0) (a .first) (a .last) (i * 32)) _ (and-split (leb lo (getD (a .numbers) i 0)) _ e .1) .0)
 rows-at a lo i (suc n) (suc j) e h =
     let g : i + suc j ≡ suc i + j = omega arith in
-    rw g (rows-at a (getD (a .numbers) i 0 + 1) (suc i) n j (and-split (soundRow (getD (a .highest) i 0) (getD (a .counts) i 0) (a .first) (a .last) (i * 32)) _ (and-split (leb lo (getD (a .numbers) i 0)) _ e .1) .1) (omega arith))
+    rw g (rows-at a (getD (a .numbers) i 0 + 1) (suc i) n j (and-split (soundRow (getD (a .from) i 0) (getD (a .highest) i 0) (getD (a .counts) i 0) (a .first) (a .last) (i * 32)) _ (and-split (leb lo (getD (a .numbers) i 0)) _ e .1) .1) (omega arith))
 
 module _ (t : Tracker) (e : wellFormed t ≡ true) where
   pub well-count : t .count ≤ 8

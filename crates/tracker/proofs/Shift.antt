@@ -142,6 +142,7 @@ module _ (t : Tracker) (i : ℕ) (w : RowOf t i) (a : i < 8) (j : ℕ) (m : j < 
       record {
         count = t .count;
         numbers = t .numbers;
+        from = t .from;
         highest = set (t .highest) i h;
         ended = set (t .ended) i (mark e);
         counts = shut t i (i * 32 + j) .counts;
@@ -189,6 +190,7 @@ module _ (t : Tracker) (i : ℕ) (w : RowOf t i) (a : i < 8) (j : ℕ) (m : j < 
         record {
           count = t .count;
           numbers = t .numbers;
+          from = t .from;
           highest = set (t .highest) i h;
           ended = set (t .ended) i (mark e);
           counts = cleft t i (i * 32 + j) v .counts;

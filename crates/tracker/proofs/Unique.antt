@@ -4,12 +4,13 @@ use mathlib.Core.Path.{_≡_, refl, ap, sym, _∙_}
 use mathlib.Core.List.{List}
 use mathlib.Core.Bool.{cond}
 use lib.Dec.{eqb}
+use lib.IntN.{ℤ}
 use Rattle.wire.specs.Answer.{Answer, accepted, refused}
 use Rattle.wire.specs.Refusal.{outputShort, noSuchChannel, numberTooLow, tableFull}
-use Rattle.gaps.specs.Channel.{ArrivalSaid, new, late, duplicate, heard}
+use Rattle.gaps.specs.Channel.{ArrivalSaid, new, late, duplicate, heard, beforeStart}
 use Rattle.tracker.specs.declared.Tracker.{Tracker}
 use Rattle.tracker.specs.declared.Verdict.{Verdict}
-use Rattle.tracker.specs.declared.Verdict.the-variants.{New, Late, Duplicate, Heard, NoSuchChannel, NumberTooLow, TableFull, Malformed}
+use Rattle.tracker.specs.declared.Verdict.the-variants.{New, Late, Duplicate, Heard, BeforeStart, NoSuchChannel, NumberTooLow, TableFull, Malformed}
 use Rattle.tracker.specs.declared.Reply.{Reply}
 use Rattle.tracker.specs.declared.Start.{Start}
 use Rattle.tracker.specs.declared.Start.the-variants.{SetUp, Malformed as Refused}
@@ -26,6 +27,7 @@ named (accepted new) = New
 named (accepted late) = Late
 named (accepted duplicate) = Duplicate
 named (accepted heard) = Heard
+named (accepted beforeStart) = BeforeStart
 named (refused n v) = cond (eqb n noSuchChannel) NoSuchChannel (cond (eqb n numberTooLow) NumberTooLow (cond (eqb n tableFull) TableFull Malformed))
 
 named-said : (v : Verdict) → named (arrivalSaid v) ≡ v
@@ -34,6 +36,7 @@ named-said New = refl
 named-said Late = refl
 named-said Duplicate = refl
 named-said Heard = refl
+named-said BeforeStart = refl
 named-said NoSuchChannel = refl
 named-said NumberTooLow = refl
 named-said TableFull = refl
@@ -63,8 +66,8 @@ abbrev startedOf : Start → Tracker → Started
 startedOf v t = record { verdict = v; tracker = t }
 
 -- a set-up leaves one answer and one tracker
-pub one-set-up : (numbers : List ℕ) (r s : Started) → begin.meansStarted r ≡ begin.setUp numbers → begin.meansStarted s ≡ begin.setUp numbers → r ≡ s
-one-set-up numbers r s p q =
+pub one-set-up : (numbers : List ℕ) (from : List ℤ) (r s : Started) → begin.meansStarted r ≡ begin.setUp numbers from → begin.meansStarted s ≡ begin.setUp numbers from → r ≡ s
+one-set-up numbers from r s p q =
     let e : begin.meansStarted r ≡ begin.meansStarted s = p ∙ sym q in
     let v : r .verdict ≡ s .verdict = sym (started-said (r .verdict)) ∙ ap (λ (o : begin.Ready). started (o .said)) e ∙ started-said (s .verdict) in
     let n : r .tracker ≡ s .tracker = ap (λ (o : begin.Ready). o .tracker) e in

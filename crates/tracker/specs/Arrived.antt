@@ -5,11 +5,11 @@ use mathlib.Core.Bool.{not}
 use lib.Dec.{ltb}
 use Rattle.wire.specs.Answer.{Answer, accepted, refused, guard}
 use Rattle.wire.specs.Refusal.{noSuchChannel, numberTooLow, tableFull, malformed}
-use Rattle.gaps.specs.Channel.{Event, ArrivalSaid, new, late, duplicate, heard, Step, judgeEvent}
+use Rattle.gaps.specs.Channel.{Event, ArrivalSaid, new, late, duplicate, heard, beforeStart, Step, judgeEvent}
 use Rattle.seats.specs.Seat.{placeFrom}
 use Rattle.tracker.specs.declared.Tracker.{Tracker}
 use Rattle.tracker.specs.declared.Verdict.{Verdict}
-use Rattle.tracker.specs.declared.Verdict.the-variants.{New, Late, Duplicate, Heard, NoSuchChannel, NumberTooLow, TableFull, Malformed}
+use Rattle.tracker.specs.declared.Verdict.the-variants.{New, Late, Duplicate, Heard, BeforeStart, NoSuchChannel, NumberTooLow, TableFull, Malformed}
 use Rattle.tracker.specs.declared.Reply.{Reply}
 use Rattle.tracker.specs.Places.{channelAt, put}
 use Rattle.tracker.specs.Rules.{wellFormed}
@@ -51,6 +51,7 @@ arrivalSaid New = accepted new
 arrivalSaid Late = accepted late
 arrivalSaid Duplicate = accepted duplicate
 arrivalSaid Heard = accepted heard
+arrivalSaid BeforeStart = accepted beforeStart
 arrivalSaid NoSuchChannel = refused noSuchChannel []
 arrivalSaid NumberTooLow = refused numberTooLow []
 arrivalSaid TableFull = refused tableFull []

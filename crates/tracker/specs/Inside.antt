@@ -30,14 +30,19 @@ use Rattle.tracker.specs.FirstRun.{Lost, lost, nothingMissing}
 
 -- ---- an arrival's channel
 
--- T2, T3: in these arrays the channel at place i keeps the rules
-pub record SoundAt (highest ended counts first last : List ℕ) (i : ℕ) : Type 0 where
+-- T2, T3: in these arrays the channel at place i, of this first number, keeps the rules
+pub record SoundAt (from : ℕ) (highest ended counts first last : List ℕ) (i : ℕ) : Type 0 where
   pub place : i < channelLimit
   pub mark : getD ended i 0 ≤ 1
-  pub row : soundRow (getD highest i 0) (getD counts i 0) first last (i * runLimit) ≡ true
+  pub row : soundRow from (getD highest i 0) (getD counts i 0) first last (i * runLimit) ≡ true
 
 abbrev pub SoundIn : Tracker → ℕ → Type 0
-SoundIn t i = SoundAt (t .highest) (t .ended) (t .counts) (t .first) (t .last) i
+SoundIn t i = SoundAt (getD (t .from) i 0) (t .highest) (t .ended) (t .counts) (t .first) (t .last) i
+
+-- the same, of some first number
+pub record SoundFrom (highest ended counts first last : List ℕ) (i : ℕ) : Type 0 where
+  pub from : ℕ
+  pub sound : SoundAt from highest ended counts first last i
 
 -- the event judged by it
 abbrev pub stepped : ℕ → Event → Tracker → Outcome
@@ -50,19 +55,23 @@ Judges t k low (At i) = (low ≡ false) × SoundIn t i × ((e : Event) → arriv
 
 -- ---- what lent arrays become
 
--- the answer, and those of the next tracker, whatever the count of channels and their numbers
-abbrev pub Becomes : Verdict → (Tracker → Outcome) → (highest ended counts first last : Passed) → Type 0
-Becomes r next highest ended counts first last =
+-- the answer, and those of the next tracker, with these first numbers, whatever the count of channels and their numbers
+abbrev pub BecomesFrom : Lent → Verdict → (Tracker → Outcome) → (highest ended counts first last : Passed) → Type 0
+BecomesFrom from r next highest ended counts first last =
     (k : ℕ) (ns : Lent) →
-    answered r (made (inArrays k ns (highest .exit) (ended .exit) (counts .exit) (first .exit) (last .exit))) ≡
-    next (made (inArrays k ns (highest .entry) (ended .entry) (counts .entry) (first .entry) (last .entry)))
+    answered r (made (inArrays k ns from (highest .exit) (ended .exit) (counts .exit) (first .exit) (last .exit))) ≡
+    next (made (inArrays k ns from (highest .entry) (ended .entry) (counts .entry) (first .entry) (last .entry)))
+
+-- the same, whatever the first numbers
+abbrev pub Becomes : Verdict → (Tracker → Outcome) → (highest ended counts first last : Passed) → Type 0
+Becomes r next highest ended counts first last = (from : Lent) → BecomesFrom from r next highest ended counts first last
 
 -- the same of the runs alone, whatever the highest numbers and the marks too
 abbrev pub Relays : Verdict → (Tracker → Outcome) → (counts first last : Passed) → Type 0
 Relays r next counts first last =
-    (k : ℕ) (ns h e : Lent) →
-    answered r (made (inArrays k ns h e (counts .exit) (first .exit) (last .exit))) ≡
-    next (made (inArrays k ns h e (counts .entry) (first .entry) (last .entry)))
+    (from : Lent) (k : ℕ) (ns h e : Lent) →
+    answered r (made (inArrays k ns from h e (counts .exit) (first .exit) (last .exit))) ≡
+    next (made (inArrays k ns from h e (counts .entry) (first .entry) (last .entry)))
 
 -- ---- numbers that become missing
 
@@ -92,6 +101,7 @@ relaid t counts first last =
     record {
       count = t .count;
       numbers = t .numbers;
+      from = t .from;
       highest = t .highest;
       ended = t .ended;
       counts = counts;

@@ -8,7 +8,7 @@ use Rattle.gaps.specs.Limits.{runLimit}
 use Rattle.gaps.specs.Channel.{Channel}
 use Rattle.gaps.specs.Built.{firsts, lasts, padded}
 use Rattle.seats.specs.Arrays.{Arrays, arrays}
-use Rattle.seats.specs.Places.{lowestNumber, span}
+use Rattle.seats.specs.Places.{span}
 use Rattle.tracker.specs.declared.Tracker.{Tracker}
 
 -- the tracker of a count and arrays, and those of a tracker
@@ -17,6 +17,7 @@ made a =
     record {
       count = a .count;
       numbers = a .numbers;
+      from = a .from;
       highest = a .highest;
       ended = a .ended;
       counts = a .counts;
@@ -25,7 +26,7 @@ made a =
     }
 
 abbrev pub arraysOf : Tracker → Arrays
-arraysOf t = arrays (t .count) (t .numbers) (t .highest) (t .ended) (t .counts) (t .first) (t .last)
+arraysOf t = arrays (t .count) (t .numbers) (t .from) (t .highest) (t .ended) (t .counts) (t .first) (t .last)
 
 -- T2: an ended mark in its place: 1 where it is set, else 0
 abbrev pub mark : Bool → ℕ
@@ -35,7 +36,7 @@ mark e = cond e 1 0
 abbrev pub channelAt : Tracker → ℕ → Channel
 channelAt t i =
     record {
-      from = lowestNumber;
+      from = getD (t .from) i 0;
       highest = getD (t .highest) i 0;
       ended = eqb (getD (t .ended) i 0) 1;
       runs = span (t .first) (t .last) (i * runLimit) (getD (t .counts) i 0);
@@ -47,6 +48,7 @@ put t i c =
     record {
       count = t .count;
       numbers = t .numbers;
+      from = t .from;
       highest = set (t .highest) i (c .highest);
       ended = set (t .ended) i (mark (c .ended));
       counts = set (t .counts) i (length (c .runs));

@@ -1,35 +1,41 @@
--- The set-up of a tracker with its channels.
-use Prim.Native.Nat.{ℕ}
-use mathlib.Core.List.{List, []}
+-- The set-up of a tracker with its channels and their first numbers.
+use Prim.Native.Nat.{ℕ, _-_}
+use mathlib.Core.List.{List, [], map}
 use mathlib.Core.Bool.{not}
-use lib.Dec.{ltb, eqb}
+use lib.IntN.{ℤ}
 use lib.ListN.{length, replicate}
 use Rattle.wire.specs.Answer.{Answer, accepted, refused, guard}
 use Rattle.wire.specs.Refusal.{malformed}
 use Rattle.gaps.specs.Built.{padded}
+use Rattle.gaps.specs.Channel.{natural}
 use Rattle.seats.specs.Places.{channelLimit, placeCount}
-use Rattle.seats.specs.Rules.{ascends}
+use Rattle.seats.specs.Rules.{channelsListed}
 use Rattle.tracker.specs.declared.Tracker.{Tracker}
 use Rattle.tracker.specs.declared.Start.{Start}
 use Rattle.tracker.specs.declared.Start.the-variants.{SetUp, Malformed}
 use Rattle.tracker.specs.declared.Started.{Started}
 
--- a count of channels and their numbers, all else zero
-abbrev pub blankWith : ℕ → List ℕ → Tracker
-blankWith count numbers =
+-- a count of channels, their numbers, first and highest ones, all else zero
+abbrev pub blankWith : ℕ → (numbers from highest : List ℕ) → Tracker
+blankWith count numbers from highest =
     record {
       count = count;
       numbers = numbers;
-      highest = replicate channelLimit 0;
+      from = from;
+      highest = highest;
       ended = replicate channelLimit 0;
       counts = replicate channelLimit 0;
       first = replicate placeCount 0;
       last = replicate placeCount 0;
     }
 
--- T1: a tracker of these channels that nothing has reached
-abbrev pub blankOf : List ℕ → Tracker
-blankOf numbers = blankWith (length numbers) (padded channelLimit numbers)
+-- first numbers in the places of channels, each less by the same
+abbrev pub lowered : ℕ → List ℤ → List ℕ
+lowered by from = padded channelLimit (map (λ (z : ℤ). natural z - by) from)
+
+-- T1: a tracker of these channels that nothing has reached: each highest number is one below the first
+abbrev pub blankOf : List ℕ → List ℤ → Tracker
+blankOf numbers from = blankWith (length numbers) (padded channelLimit numbers) (lowered 0 from) (lowered 1 from)
 
 -- T1: what the set-up answers, and the tracker that it gives
 pub record Ready : Type 0 where
@@ -39,16 +45,11 @@ pub record Ready : Type 0 where
 -- J7: a refused set-up gives zeros, and no channel
 abbrev pub setUpGives : Answer Tracker → Ready
 setUpGives (accepted t) = record { said = accepted tt; tracker = t }
-setUpGives (refused n v) = record { said = refused n v; tracker = blankOf [] }
+setUpGives (refused n v) = record { said = refused n v; tracker = blankOf [] [] }
 
--- T1, R10: no channel, too many, or numbers that do not ascend are refused
-unfoldable pub setUp : List ℕ → Ready
-setUp numbers =
-    setUpGives
-    (guard (eqb (length numbers) 0) (refused malformed [])
-    (guard (ltb channelLimit (length numbers)) (refused malformed [])
-    (guard (not (ascends 0 numbers)) (refused malformed [])
-    (accepted (blankOf numbers)))))
+-- T1, R10: lists that a set-up does not take are refused
+unfoldable pub setUp : List ℕ → List ℤ → Ready
+setUp numbers from = setUpGives (guard (not (channelsListed numbers from)) (refused malformed []) (accepted (blankOf numbers from)))
 
 -- the number and values for each case of the code's answer
 abbrev pub setUpSaid : Start → Answer Unit

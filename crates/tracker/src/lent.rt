@@ -10,7 +10,7 @@ ghost use Rattle.rows.specs.declared.Held.the-variants.{Alone, Inside};
 ghost use Rattle.seats.specs.Arrays.{atEntry, atExit};
 ghost use Rattle.tracker.specs.Places.{made};
 ghost use Rattle.tracker.specs.Arrived.{on, arrive, arrivalSaid, answered};
-ghost use Rattle.tracker.specs.Inside.{SoundAt, Becomes, Relays, stepped, raising, Changeable, lateAs};
+ghost use Rattle.tracker.specs.Inside.{SoundAt, SoundFrom, BecomesFrom, Becomes, Relays, stepped, raising, Changeable, lateAs};
 use crate::Judged;
 use crate::Tracker;
 use crate::Verdict;
@@ -24,9 +24,10 @@ use rows::room;
 use rows::search;
 
 // A tick on a channel: its answer, and the arrays of the next tracker.
-pub fn tick_in(
+pub fn tick_in<'a>(
     count: usize,
-    numbers: &[u16; Tracker::CHANNELS],
+    numbers: &'a [u16; Tracker::CHANNELS],
+    from: &'a [u64; Tracker::CHANNELS],
     highest: &mut [u64; Tracker::CHANNELS],
     ended: &mut [u8; Tracker::CHANNELS],
     counts: &mut [usize; Tracker::CHANNELS],
@@ -35,7 +36,7 @@ pub fn tick_in(
     channel: u16,
     number: i64,
 ) -> Verdict
-    ensures { λ r. ⌜ answered r (made (atExit count numbers highest ended counts first last)) ≡ arrive (made (atEntry count numbers highest ended counts first last)) (on channel (tick number)) ⌝ }
+    ensures { λ r. ⌜ answered r (made (atExit count numbers from highest ended counts first last)) ≡ arrive (made (atEntry count numbers from highest ended counts first last)) (on channel (tick number)) ⌝ }
 {
     let n = signs::natural(number);
     let judged = judge(
@@ -43,6 +44,7 @@ pub fn tick_in(
         n < 1,
         count,
         numbers,
+        from,
         highest,
         ended,
         counts,
@@ -51,14 +53,15 @@ pub fn tick_in(
     );
     match judged {
         Judged::Refused(verdict) => verdict,
-        Judged::At(at) => ticked(at, n, highest, ended, counts, first, last),
+        Judged::At(at) => ticked(at, n, from, highest, ended, counts, first, last),
     }
 }
 
 // A channel heartbeat: its answer, and the arrays of the next tracker.
-pub fn heartbeat_in(
+pub fn heartbeat_in<'a>(
     count: usize,
-    numbers: &[u16; Tracker::CHANNELS],
+    numbers: &'a [u16; Tracker::CHANNELS],
+    from: &'a [u64; Tracker::CHANNELS],
     highest: &mut [u64; Tracker::CHANNELS],
     ended: &mut [u8; Tracker::CHANNELS],
     counts: &mut [usize; Tracker::CHANNELS],
@@ -68,13 +71,14 @@ pub fn heartbeat_in(
     number: i64,
     end: bool,
 ) -> Verdict
-    ensures { λ r. ⌜ answered r (made (atExit count numbers highest ended counts first last)) ≡ arrive (made (atEntry count numbers highest ended counts first last)) (on channel (heartbeat number end)) ⌝ }
+    ensures { λ r. ⌜ answered r (made (atExit count numbers from highest ended counts first last)) ≡ arrive (made (atEntry count numbers from highest ended counts first last)) (on channel (heartbeat number end)) ⌝ }
 {
     let judged = judge(
         channel,
         signs::below(number, 0),
         count,
         numbers,
+        from,
         highest,
         ended,
         counts,
@@ -94,14 +98,15 @@ pub fn heartbeat_in(
 fn ticked(
     at: usize,
     n: u64,
+    from: &[u64; Tracker::CHANNELS],
     highest: &mut [u64; Tracker::CHANNELS],
     ended: &mut [u8; Tracker::CHANNELS],
     counts: &mut [usize; Tracker::CHANNELS],
     first: &mut [u64; Tracker::PLACES],
     last: &mut [u64; Tracker::PLACES],
 ) -> Verdict
-    requires { ⌜ SoundAt (now highest) (now ended) (now counts) (now first) (now last) at × (1 ≤ n) ⌝ }
-    ensures { λ r. ⌜ Becomes r (stepped at (tick (pos n))) highest ended counts first last ⌝ }
+    requires { ⌜ SoundAt (getD (now from) at 0) (now highest) (now ended) (now counts) (now first) (now last) at × (1 ≤ n) ⌝ }
+    ensures { λ r. ⌜ BecomesFrom (from .entry) r (stepped at (tick (pos n))) highest ended counts first last ⌝ }
 {
     let before = highest[at];
     // The common path: the next number, and nothing else changes.
@@ -124,6 +129,9 @@ fn ticked(
             last,
         );
     }
+    if n < from[at] {
+        return Verdict::BeforeStart;
+    }
     let held = search(first, last, at, counts[at], n);
     late(held, at, n, counts, first, last)
 }
@@ -139,16 +147,16 @@ fn heard(
     first: &mut [u64; Tracker::PLACES],
     last: &mut [u64; Tracker::PLACES],
 ) -> Verdict
-    requires { ⌜ SoundAt (now highest) (now ended) (now counts) (now first) (now last) at ⌝ }
+    requires { ⌜ SoundFrom (now highest) (now ended) (now counts) (now first) (now last) at ⌝ }
     ensures { λ r. ⌜ Becomes r (stepped at (heartbeat (pos m) end)) highest ended counts first last ⌝ }
 {
-    let mark = (ended[at] == 1) | end;
+    let marked = (ended[at] == 1) | end;
     if highest[at] < m {
         return raise(
             at,
             m,
             m,
-            mark,
+            marked,
             Verdict::Heard,
             highest,
             ended,
@@ -157,7 +165,7 @@ fn heard(
             last,
         );
     }
-    ended[at] = signs::mark(mark);
+    ended[at] = signs::mark(marked);
     Verdict::Heard
 }
 
@@ -198,7 +206,7 @@ fn raise(
     first: &mut [u64; Tracker::PLACES],
     last: &mut [u64; Tracker::PLACES],
 ) -> Verdict
-    requires { ⌜ SoundAt (now highest) (now ended) (now counts) (now first) (now last) at ⌝ }
+    requires { ⌜ SoundFrom (now highest) (now ended) (now counts) (now first) (now last) at ⌝ }
     ensures { λ r. ⌜ Becomes r (raising at (arrivalSaid verdict) top mark m) highest ended counts first last ⌝ }
 {
     let held = counts[at];

@@ -12,18 +12,21 @@ pub use request::request_in;
 use rows::padded;
 use seats::Seat;
 use seats::listed;
+use starts::lowered;
 use wire::answers;
 
 mod lent;
 mod refused;
 mod request;
 mod signs;
+mod starts;
 
-// Each channel's number, highest number, ended mark and count of runs, and the runs of all of them; unused places are zero.
+// Each channel's number, first number, highest number, ended mark and count of runs, and the runs of all of them; unused places are zero.
 #[repr(C)]
 pub struct Tracker {
     pub count: usize,
     pub numbers: [u16; Tracker::CHANNELS],
+    pub from: [u64; Tracker::CHANNELS],
     pub highest: [u64; Tracker::CHANNELS],
     pub ended: [u8; Tracker::CHANNELS],
     pub counts: [usize; Tracker::CHANNELS],
@@ -61,6 +64,7 @@ pub enum Verdict {
     Late,
     Duplicate,
     Heard,
+    BeforeStart,
     NoSuchChannel,
     NumberTooLow,
     TableFull,
@@ -77,6 +81,7 @@ impl Verdict {
             Verdict::Late => answers::PLAIN,
             Verdict::Duplicate => answers::PLAIN,
             Verdict::Heard => answers::PLAIN,
+            Verdict::BeforeStart => answers::PLAIN,
             Verdict::NoSuchChannel => answers::NO_SUCH_CHANNEL,
             Verdict::NumberTooLow => answers::NUMBER_TOO_LOW,
             Verdict::TableFull => answers::TABLE_FULL,
@@ -139,30 +144,46 @@ impl Tracker {
     // The places of all channels' runs.
     const PLACES: usize = Seat::PLACES;
 
-    // A tracker of these channels that nothing has reached, or the all-zero tracker where they are refused.
-    pub fn set_up(numbers: &[u16]) -> Started
-        ensures { λ r. ⌜ begun r ≡ setUp (now (numbers .entry)) ⌝ }
+    // A tracker of these channels, with a first number for each, that nothing has reached; or the all-zero tracker where they are refused.
+    pub fn set_up<'a>(numbers: &'a [u16], from: &'a [i64]) -> Started
+        ensures { λ r. ⌜ begun r ≡ setUp (now (numbers .entry)) (now (from .entry)) ⌝ }
     {
-        if listed(numbers) {
+        if listed(numbers, from) {
             return Started {
                 verdict: Start::SetUp,
-                tracker: Tracker::blank(numbers.len(), padded(numbers)),
+                tracker: Tracker::blank(
+                    numbers.len(),
+                    padded(numbers),
+                    lowered(from, 0),
+                    lowered(from, 1),
+                ),
             };
         }
         Started {
             verdict: Start::Malformed,
-            tracker: Tracker::blank(0, [0; Tracker::CHANNELS]),
+            tracker: Tracker::blank(
+                0,
+                [0; Tracker::CHANNELS],
+                [0; Tracker::CHANNELS],
+                [0; Tracker::CHANNELS],
+            ),
         }
     }
 
-    // A tracker of these channels, zero but for them.
-    fn blank(count: usize, numbers: [u16; Tracker::CHANNELS]) -> Tracker
-        ensures { λ r. ⌜ r ≡ blankWith count numbers ⌝ }
+    // A tracker of these channels, first and highest numbers, zero but for them.
+    fn blank(
+        count: usize,
+        numbers: [u16; Tracker::CHANNELS],
+        from: [u64; Tracker::CHANNELS],
+        highest: [u64; Tracker::CHANNELS],
+    ) -> Tracker
+        ensures { λ r. ⌜ r ≡ blankWith count numbers from highest ⌝ }
     {
         Tracker {
             count: count,
             numbers: numbers,
-            highest: [0; Tracker::CHANNELS],
+            from: from,
+            highest: highest,
             ended: [0; Tracker::CHANNELS],
             counts: [0; Tracker::CHANNELS],
             first: [0; Tracker::PLACES],
@@ -176,6 +197,7 @@ impl Tracker {
     {
         let count = self.count;
         let numbers = self.numbers;
+        let from = self.from;
         let mut highest = self.highest;
         let mut ended = self.ended;
         let mut counts = self.counts;
@@ -184,6 +206,7 @@ impl Tracker {
         let verdict = lent::tick_in(
             count,
             &numbers,
+            &from,
             &mut highest,
             &mut ended,
             &mut counts,
@@ -197,6 +220,7 @@ impl Tracker {
             next: Tracker {
                 count,
                 numbers,
+                from,
                 highest,
                 ended,
                 counts,
@@ -212,6 +236,7 @@ impl Tracker {
     {
         let count = self.count;
         let numbers = self.numbers;
+        let from = self.from;
         let mut highest = self.highest;
         let mut ended = self.ended;
         let mut counts = self.counts;
@@ -220,6 +245,7 @@ impl Tracker {
         let verdict = lent::heartbeat_in(
             count,
             &numbers,
+            &from,
             &mut highest,
             &mut ended,
             &mut counts,
@@ -234,6 +260,7 @@ impl Tracker {
             next: Tracker {
                 count,
                 numbers,
+                from,
                 highest,
                 ended,
                 counts,
@@ -251,6 +278,7 @@ impl Tracker {
         request::request_in(
             self.count,
             &self.numbers,
+            &self.from,
             &self.highest,
             &self.ended,
             &self.counts,

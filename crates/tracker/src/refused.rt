@@ -13,15 +13,26 @@ pub(crate) fn judge<'a>(
     low: bool,
     count: usize,
     numbers: &'a [u16; Tracker::CHANNELS],
+    from: &'a [u64; Tracker::CHANNELS],
     highest: &'a [u64; Tracker::CHANNELS],
     ended: &'a [u8; Tracker::CHANNELS],
     counts: &'a [usize; Tracker::CHANNELS],
     first: &'a [u64; Tracker::PLACES],
     last: &'a [u64; Tracker::PLACES],
 ) -> Judged
-    ensures { λ r. ⌜ Judges (made (atEntry count numbers highest ended counts first last)) channel low r ⌝ }
+    ensures { λ r. ⌜ Judges (made (atEntry count numbers from highest ended counts first last)) channel low r ⌝ }
 {
-    let seat = seat_of(channel, count, numbers, highest, ended, counts, first, last);
+    let seat = seat_of(
+        channel,
+        count,
+        numbers,
+        from,
+        highest,
+        ended,
+        counts,
+        first,
+        last,
+    );
     if !seat.sound {
         return Judged::Refused(Verdict::Malformed);
     }

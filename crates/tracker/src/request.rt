@@ -28,15 +28,26 @@ fn first_run<'a>(
     channel: u16,
     count: usize,
     numbers: &'a [u16; Tracker::CHANNELS],
+    from: &'a [u64; Tracker::CHANNELS],
     highest: &'a [u64; Tracker::CHANNELS],
     ended: &'a [u8; Tracker::CHANNELS],
     counts: &'a [usize; Tracker::CHANNELS],
     first: &'a [u64; Tracker::PLACES],
     last: &'a [u64; Tracker::PLACES],
 ) -> Wanted
-    ensures { λ r. ⌜ lostOf r ≡ firstRun (made (atEntry count numbers highest ended counts first last)) channel ⌝ }
+    ensures { λ r. ⌜ lostOf r ≡ firstRun (made (atEntry count numbers from highest ended counts first last)) channel ⌝ }
 {
-    let seat = seat_of(channel, count, numbers, highest, ended, counts, first, last);
+    let seat = seat_of(
+        channel,
+        count,
+        numbers,
+        from,
+        highest,
+        ended,
+        counts,
+        first,
+        last,
+    );
     if !seat.sound {
         return Wanted::Malformed;
     }
@@ -58,6 +69,7 @@ fn first_run<'a>(
 pub fn request_in<'a>(
     count: usize,
     numbers: &'a [u16; Tracker::CHANNELS],
+    from: &'a [u64; Tracker::CHANNELS],
     highest: &'a [u64; Tracker::CHANNELS],
     ended: &'a [u8; Tracker::CHANNELS],
     counts: &'a [usize; Tracker::CHANNELS],
@@ -66,10 +78,20 @@ pub fn request_in<'a>(
     channel: u16,
     out: &mut [u8],
 ) -> Requested
-    ensures { λ r. ⌜ meansRequested r ≡ request (made (atEntry count numbers highest ended counts first last)) channel (now (out .entry)) ⌝ }
-    ensures { λ r. ⌜ now (out .exit) ≡ requestLeaves (made (atEntry count numbers highest ended counts first last)) channel (now (out .entry)) ⌝ }
+    ensures { λ r. ⌜ meansRequested r ≡ request (made (atEntry count numbers from highest ended counts first last)) channel (now (out .entry)) ⌝ }
+    ensures { λ r. ⌜ now (out .exit) ≡ requestLeaves (made (atEntry count numbers from highest ended counts first last)) channel (now (out .entry)) ⌝ }
 {
-    let wanted = first_run(channel, count, numbers, highest, ended, counts, first, last);
+    let wanted = first_run(
+        channel,
+        count,
+        numbers,
+        from,
+        highest,
+        ended,
+        counts,
+        first,
+        last,
+    );
     match wanted {
         Wanted::First(run) => ask(channel, run, out),
         Wanted::NothingMissing => Requested::NothingMissing,

@@ -32,6 +32,9 @@ moreNumber = 106
 abbrev pub endNumber : ℕ
 endNumber = 107
 
+abbrev pub beforeStartNumber : ℕ
+beforeStartNumber = 108
+
 -- C1: plain where it is accepted, else the refusal's number
 abbrev pub answerNumber : {A : Type 0} → Answer A → ℕ
 answerNumber (accepted x) = plain

@@ -36,3 +36,5 @@ pub const NOTHING_MISSING: u32 = 105;
 pub const MORE: u32 = 106;
 
 pub const END: u32 = 107;
+
+pub const BEFORE_START: u32 = 108;

@@ -7,14 +7,18 @@ use Rattle.tracker.proofs.Tracker.set_up.Tie as tie
 
 returns : tie.Need-returns
 returns c =
-    let l = c .before .before .before .before .before .args .numbers .now in
-    let e = sym (c .before .before .before .listed .ensures) ∙ c .before .before .if1 .taken in
-    rw (c .blank .ensures, c .before .padded .ensures, take-all 8 l (listed-most l e)) (sym (set-up-listed l e))
+    let k = c .before .before .before .before .before in
+    let s = k .before .before .args in
+    let e = sym (k .listed .ensures) ∙ c .before .before .before .before .if1 .taken in
+    let m = listed-most (s .numbers .now) (s .from .now) e in
+    rw (c .blank .ensures, c .before .before .before .padded .ensures, c .before .before .lowered .ensures, c .before .lowered2 .ensures, take-all 8 (s .numbers .now) (m .0), take-all 8 (s .from .now) (m .1))
+    (sym (set-up-listed (s .numbers .now) (s .from .now) e))
 
 returns-2 : tie.Need-returns-2
 returns-2 c =
-    let l = c .before .before .before .before .args .numbers .now in
-    rw (c .blank2 .ensures) (sym (set-up-refused l (sym (c .before .before .listed .ensures) ∙ c .before .if1 .left)))
+    let k = c .before .before in
+    let s = k .before .before .args in
+    rw (c .blank2 .ensures) (sym (set-up-refused (s .numbers .now) (s .from .now) (sym (k .listed .ensures) ∙ c .before .if1 .left)))
 
 pub set-up-spec : {M : Type 1} → statement M
-set-up-spec = tie.close (tie.spec (λ c κs. search needs) (λ c κs. search needs) (λ c κs. search needs) returns (λ c κs. search needs) returns-2)
+set-up-spec = tie.close (tie.spec (λ c κs. search needs) (λ c κs. search needs) (λ c κs. search needs) (λ c κs. search needs) (λ c κs. search needs) returns (λ c κs. search needs) returns-2)

@@ -13,13 +13,13 @@ returns c =
     let d = c .before .before .before .before .before .before in
     let s = d .before .before .before .args in
     let g = d .before .before .before .pre in
-    λ k ns. (let t = made (inArrays k ns (s .highest) (s .ended) (s .counts) (s .first) (s .last)) in c .raise .ensures k ns ∙ sym (heard-ahead t (s .at) (kept-row g) (s .m) (s .end) (omega (arith, d .if1 .taken))))
+    λ fs k ns. (let t = made (inArrays k ns fs (s .highest) (s .ended) (s .counts) (s .first) (s .last)) in c .raise .ensures fs k ns ∙ sym (heard-ahead t (s .at) (kept-row (g .sound)) (s .m) (s .end) (omega (arith, d .if1 .taken))))
 
 returns-2 : tie.Need-returns-2
 returns-2 c =
     let s = c .before .before .before .before .args in
     let g = c .before .before .before .before .pre in
-    λ k ns. (let t = made (inArrays k ns (s .highest) (s .ended) (s .counts) (s .first) (s .last)) in rw (c .mark2 .ensures) (sym (heard-behind t (s .at) (kept-row g) (s .m) (s .end) (omega (arith, c .before .if1 .left)))))
+    λ fs k ns. (let t = made (inArrays k ns fs (s .highest) (s .ended) (s .counts) (s .first) (s .last)) in rw (c .mark .ensures) (sym (heard-behind t (s .at) (kept-row (g .sound)) (s .m) (s .end) (omega (arith, c .before .if1 .left)))))
 
 pub heard-spec : {M : Type 1} → statement M
 heard-spec =

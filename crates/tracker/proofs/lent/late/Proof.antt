@@ -17,7 +17,7 @@ mul-last : tie.Need-mul-last
 mul-last c = omega (arith, element-write-first c)
 
 returns : tie.Need-returns
-returns c = λ k ns h e. rw (c .before .held .given .1)
+returns c = λ fs k ns h e. rw (c .before .held .given .1)
 
 leave-requires : tie.Need-leave-requires
 leave-requires c κs =
@@ -32,13 +32,13 @@ split-requires c κs =
     (d .pre .0, d .pre .1, told-fits (getD (d .args .counts .now) (d .args .at) 0) (f .held3 .given .1) (d .pre .4), d .pre .2, d .pre .3)
 
 returns-3 : tie.Need-returns-3
-returns-3 c = λ k ns h e. rw (c .before .before .before .before .before .held2 .given .1) (c .leave .ensures k ns h e)
+returns-3 c = λ fs k ns h e. rw (c .before .before .before .before .before .held2 .given .1) (c .leave .ensures fs k ns h e)
 
 returns-4 : tie.Need-returns-4
-returns-4 c = λ k ns h e. rw (c .before .before .before .before .before .held3 .given .1) (c .split .ensures k ns h e)
+returns-4 c = λ fs k ns h e. rw (c .before .before .before .before .before .held3 .given .1) (c .split .ensures fs k ns h e)
 
 returns-2 : tie.Need-returns-2
-returns-2 c = λ k ns h e. rw (c .enum-told .given .1)
+returns-2 c = λ fs k ns h e. rw (c .enum-told .given .1)
 
 pub late-spec : {M : Type 1} → statement M
 late-spec =

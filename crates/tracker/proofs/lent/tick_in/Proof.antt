@@ -6,7 +6,7 @@ use borrow.Author.Tests.{ltb-false}
 use Rattle.gaps.specs.Channel.{tick, natural}
 use Rattle.seats.specs.Arrays.{inArrays}
 use Rattle.tracker.specs.Places.{made}
-use Rattle.tracker.proofs.Signed.{below-one}
+use Rattle.gaps.proofs.Signed.{below-one}
 use Rattle.tracker.proofs.Judge.{told-at, told-refused, tick-seat}
 use borrow.Author.Needs.{needs}
 use Rattle.tracker.proofs.lent.tick_in.Statement.{statement}
@@ -18,7 +18,7 @@ ticked-requires c κs =
     let j = d .before .before in
     let v = j .before .before .before .before .before .before in
     let s = v .before .args in
-    let t = made (inArrays (s .count) (s .numbers) (s .highest) (s .ended) (s .counts) (s .first) (s .last)) in
+    let t = made (inArrays (s .count) (s .numbers) (s .from) (s .highest) (s .ended) (s .counts) (s .first) (s .last)) in
     let w = told-at t (s .channel) (ltb (v .natural .result) 1) (d .judged2 .given .0 .0) (j .judge .result) (j .judge .ensures) (d .judged2 .given .1) in
     (w .1, ltb-false (v .natural .result) 1 (w .0))
 
@@ -28,7 +28,7 @@ returns c =
     let j = d .before .before in
     let v = j .before .before .before .before .before .before in
     let s = v .before .args in
-    let t = made (inArrays (s .count) (s .numbers) (s .highest) (s .ended) (s .counts) (s .first) (s .last)) in
+    let t = made (inArrays (s .count) (s .numbers) (s .from) (s .highest) (s .ended) (s .counts) (s .first) (s .last)) in
     let n = v .natural .result in
     let z : n ≡ natural (s .number) = rw (toZ-ofZ (v .before .fits .number)) at (v .natural .ensures) in
     let w = told-refused t (s .channel) (ltb n 1) (d .judged .given .0 .0) (j .judge .result) (j .judge .ensures) (d .judged .given .1) in
@@ -40,7 +40,7 @@ returns-2 c =
     let j = d .before .before in
     let v = j .before .before .before .before .before .before in
     let s = v .before .args in
-    let t = made (inArrays (s .count) (s .numbers) (s .highest) (s .ended) (s .counts) (s .first) (s .last)) in
+    let t = made (inArrays (s .count) (s .numbers) (s .from) (s .highest) (s .ended) (s .counts) (s .first) (s .last)) in
     let n = v .natural .result in
     let i = d .judged2 .given .0 .0 in
     let z : n ≡ natural (s .number) = rw (toZ-ofZ (v .before .fits .number)) at (v .natural .ensures) in

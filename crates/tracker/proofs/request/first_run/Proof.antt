@@ -38,23 +38,23 @@ returns-3 c =
     let w = seat-at _ (k .before .args .channel) (k .seat-of .result) (k .seat-of .ensures) (not-false _ (c .before .before .before .if1 .left)) (omega arith) in
     sym (w .1 ∙ ap (λ (x : Lost). accepted x) (no-run (s .first .now) (s .last .now) (i * runLimit) (getD (s .counts .now) i 0) (c .if3 .taken)))
 
-element-copy-out-t19 : tie.Need-element-copy-out-t19
-element-copy-out-t19 c =
+element-copy-out-t20 : tie.Need-element-copy-out-t20
+element-copy-out-t20 c =
     let k = c .before .before .before .before .before in
     let w = seat-at _ (k .before .args .channel) (k .seat-of .result) (k .seat-of .ensures) (not-false _ (c .before .before .before .if1 .left)) (omega arith) in
     omega (arith, w .0)
 
 mul-b : tie.Need-mul-b
-mul-b c = omega (arith, element-copy-out-t19 c)
+mul-b c = omega (arith, element-copy-out-t20 c)
 
-mul-t13 : tie.Need-mul-t13
-mul-t13 c = omega (arith, element-copy-out-t19 c)
+mul-t14 : tie.Need-mul-t14
+mul-t14 c = omega (arith, element-copy-out-t20 c)
 
-element-copy-out-t22 : tie.Need-element-copy-out-t22
-element-copy-out-t22 c = omega (arith, element-copy-out-t19 (c .before))
+element-copy-out-t23 : tie.Need-element-copy-out-t23
+element-copy-out-t23 c = omega (arith, element-copy-out-t20 (c .before))
 
-mul-t16 : tie.Need-mul-t16
-mul-t16 c = omega (arith, element-copy-out-t19 (c .before))
+mul-t17 : tie.Need-mul-t17
+mul-t17 c = omega (arith, element-copy-out-t20 (c .before))
 
 returns-4 : tie.Need-returns-4
 returns-4 c =
@@ -66,5 +66,5 @@ returns-4 c =
 
 pub first-run-spec : {M : Type 1} → statement M
 first-run-spec =
-    tie.close (tie.spec (λ c κs. search needs) returns returns-2 mul-if3 element-copy-out-if3 returns-3 mul-b mul-t13
-    element-copy-out-t19 mul-t16 element-copy-out-t22 returns-4)
+    tie.close (tie.spec (λ c κs. search needs) returns returns-2 mul-if3 element-copy-out-if3 returns-3 mul-b mul-t14
+    element-copy-out-t20 mul-t17 element-copy-out-t23 returns-4)

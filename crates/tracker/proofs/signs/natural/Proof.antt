@@ -1,5 +1,5 @@
 use mir.Facts.{toZ-ofZ}
-use Rattle.tracker.proofs.Signed.{natural-none, natural-some, cast-some}
+use Rattle.gaps.proofs.Signed.{natural-none, natural-some, cast-some}
 use Rattle.tracker.proofs.signs.natural.Statement.{statement}
 use Rattle.tracker.proofs.signs.natural.Tie as tie
 
