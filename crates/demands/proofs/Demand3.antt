@@ -31,10 +31,10 @@ use Rattle.tracker.proofs.Begin.{set-up-listed, set-up-refused}
 use Rattle.tracker.proofs.Seated.{arrived-at}
 use Rattle.tracker.proofs.Unique.{named}
 use Rattle.tracker.proofs.Holder.{holder, at, start, start-at, first-at, holder-channel, holder-start, holder-well, Listed}
-use Rattle.demands.specs.Play.{Fresh, Turn, turn, Play, arrivals, only, answersTo, ifAccepted, historyOf, NeverFull, Has, channelOf, startOf, done, step}
+use Rattle.demands.specs.Play.{Fresh, Turn, turn, Play, arrivals, only, answersTo, ifAccepted, historyOf, NeverFull, Has, channelOf, fromOf, done, step}
 use Rattle.demands.specs.Demand3.{HoldsItsList, HoldsItsFirsts, TwoOrders, GapsFromHistory, MarksFromHistory, NineFromHistory, TickFromHistory, HeartbeatFromHistory, OthersRemoved, EverySetUpGives, EveryListPlays}
 use Rattle.demands.proofs.Calls.{set-up-as, arrives-as, sets-up, arrives}
-use Rattle.demands.proofs.Played.{AllKnown, seat, seat-listed, seat-number, seat-same, seat-test, eventsAt, answersAt, Ends, ends as played, known-fresh, all-good}
+use Rattle.demands.proofs.Played.{AllKnown, seat, seat-listed, seat-at, seat-same, seat-test, eventsAt, answersAt, Ends, ends as played, known-fresh, all-good}
 
 -- ---- a fresh record
 
@@ -109,7 +109,7 @@ module _ (ns : List ℕ) (fs : List ℤ) (t : Tracker) (f : Fresh ns fs t) where
     place-first = ap (λ (x : Tracker). place x k) began ∙ seat-same ns (start fs) k
 
     -- the channel's first number is the one that came with it
-    first-is : startOf t k ≡ first fs (seat ns k)
+    first-is : fromOf t k ≡ first fs (seat ns k)
     first-is =
         ap (λ (i : ℕ). channelAt t i .from) place-first
         ∙ ap (λ (x : Tracker). channelAt x (seat ns k) .from) began
@@ -185,7 +185,7 @@ module _ (ns : List ℕ) (k : ℕ) (h : seat ns k < length ns) where
 -- ---- a channel after a playing
 
 pub record View (t u : Tracker) (l : List Turn) (k : ℕ) : Type 0 where
-  pub right : Exact (startOf t k) (channelOf u k) (historyOf k l)
+  pub right : Exact (fromOf t k) (channelOf u k) (historyOf k l)
   pub size : length (channelOf u k .runs) ≤ 32
   pub answer : (e : Event) (r : Reply) → meansReply r ≡ arrive u (on k e) → arrivalSaid (r .verdict) ≡ words (judgeEvent (channelOf u k) e)
 
@@ -225,13 +225,12 @@ holds-its-list ns fs t f k =
     rw (began ns fs t f) e
 
 pub holds-its-firsts : HoldsItsFirsts
-holds-its-firsts ns fs t f k h =
-    let s = seated ns fs t f k h in
-    let i = place-first ns fs t f k h in
-    let one = range ns fs t f (seat ns k) s .0 in (
-      ap (λ (j : ℕ). getD ns j 0) i ∙ seat-number ns k s,
-      ap pos (first-is ns fs t f k h) ∙ sym (natural-one (getD fs (seat ns k) (pos 0)) one) ∙ sym (ap (λ (j : ℕ). getD fs j (pos 0)) i),
-    )
+holds-its-firsts ns fs t f i h =
+    let k = getD ns i 0 in
+    let s = seat-at ns (listed ns fs t f) i h in
+    let g : seat ns k < length ns = omega (arith, s, h) in
+    let has : Has t k = holds-its-list ns fs t f k .1 (seat-listed ns k .0 g) in
+    ap pos (first-is ns fs t f k has) ∙ sym (natural-one (getD fs (seat ns k) (pos 0)) (range ns fs t f (seat ns k) g .0)) ∙ ap (λ (j : ℕ). getD fs j (pos 0)) s
 
 pub gaps-from-history : GapsFromHistory
 gaps-from-history ns fs t u l f p k h n = forms (view ns fs t u l f p k h .right) .same n
@@ -242,7 +241,7 @@ marks-from-history ns fs t u l f p k h = let x = view ns fs t u l f p k h .right
 pub nine-from-history : NineFromHistory
 nine-from-history ns fs t u l f p k h e r low q =
     let v = view ns fs t u l f p k h in
-    rw (v .answer e r (arrives-as q)) (nine (startOf t k) (channelOf u k) (historyOf k l) (v .right) (v .size) e low)
+    rw (v .answer e r (arrives-as q)) (nine (fromOf t k) (channelOf u k) (historyOf k l) (v .right) (v .size) e low)
 
 pub tick-from-history : TickFromHistory
 tick-from-history ns fs t u l f p k h n r s q =
@@ -250,9 +249,9 @@ tick-from-history ns fs t u l f p k h n r s q =
     let low : tooLow (tick (pos n)) ≡ false = le-ltb n 1 s in
     let c = channelOf u k in
     let g = historyOf k l in
-    let b : (words (judgeEvent c (tick (pos n))) ≡ accepted beforeStart) ↔ (n < startOf t k) = rw (sym (v .right .own)) (says-before c n low) in
+    let b : (words (judgeEvent c (tick (pos n))) ≡ accepted beforeStart) ↔ (n < fromOf t k) = rw (sym (v .right .own)) (says-before c n low) in
     rw (v .answer (tick (pos n)) r (arrives-as q))
-    (b, says-new (startOf t k) c g (v .right) (v .size) n low, says-late (startOf t k) c g (v .right) (v .size) n low, says-duplicate (startOf t k) c g (v .right) (v .size) n low)
+    (b, says-new (fromOf t k) c g (v .right) (v .size) n low, says-late (fromOf t k) c g (v .right) (v .size) n low, says-duplicate (fromOf t k) c g (v .right) (v .size) n low)
 
 pub heartbeat-from-history : HeartbeatFromHistory
 unfolding announced
@@ -261,8 +260,8 @@ heartbeat-from-history ns fs t u l f p k h m end r q =
     let e = heartbeat (pos m) end in
     let low : tooLow e ≡ false = le-ltb m 0 zero-le in
     rw (v .answer e r (arrives-as q)) (
-      λ w. alone.accepted-says (startOf t k) (channelOf u k) (historyOf k l) (v .right) (v .size) e heard (λ d. let z : _≡_ {A = ℕ} 0 1 = cc in omega arith) w .2,
-      λ w. alone.accepts (startOf t k) (channelOf u k) (historyOf k l) (v .right) (v .size) e low refl w,
+      λ w. alone.accepted-says (fromOf t k) (channelOf u k) (historyOf k l) (v .right) (v .size) e heard (λ d. let z : _≡_ {A = ℕ} 0 1 = cc in omega arith) w .2,
+      λ w. alone.accepts (fromOf t k) (channelOf u k) (historyOf k l) (v .right) (v .size) e low refl w,
     )
 
 pub others-removed : OthersRemoved

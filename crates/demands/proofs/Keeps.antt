@@ -253,7 +253,7 @@ module _ (t : Tracker) where
             (let x : 0 + i ≡ i = omega arith in
             let y : 0 + suc i ≡ suc i = omega arith in
             rw (x, y) at (rows-rise (arraysOf t) 0 0 (t .count) i (r .0) h));
-        first = λ i h. at-row e i h .first;
+        from = λ i h. at-row e i h .first;
         highest = λ i h. (at-row e i h .start, at-row e i h .high);
         mark = λ i h. (let x : 0 + i ≡ i = omega arith in rw x at (marks-at (t .ended) 0 8 i (r .1) h));
         runs = λ i h. at-row e i h .few;
@@ -296,7 +296,7 @@ module _ (t : Tracker) where
           (record {
             few = k .runs i h;
             high = k .highest i h .1;
-            first = k .first i h;
+            first = k .from i h;
             start = k .highest i h .0;
             inside = λ j g. k .inside i j h g;
             apart = λ j g. k .apart i j h g;

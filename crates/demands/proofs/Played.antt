@@ -5,18 +5,18 @@ use mathlib.Core.Path.{_≡_, refl, ap, sym, _∙_, subst}
 use mathlib.Core.Logic.{_↔_, _⊎_, inl, inr, ⊎-elim}
 use mathlib.Core.List.{List, [], _∷_, _++_, List·Memᴰ, List·Memᴰ·head, List·Memᴰ·tail}
 use mathlib.Core.Bool.{Bool, true, false, cond}
-use lib.Dec.{eqb}
+use lib.Dec.{leb, eqb}
 use lib.ListN.{length, getD, set, replicate, length-set, List·getD-append}
 use lib.Seq.{set-getD, getD-set-same, getD-set-other}
 use mir.Syntax.{w64}
 use mir.Val.{SFits}
-use borrow.Author.Tests.{le-leb, eqb-true, eqb-false, eq-eqb, ne-eqb}
+use borrow.Author.Tests.{le-leb, leb-true, eqb-true, eqb-false, eq-eqb, ne-eqb}
 use Rattle.wire.specs.Answer.{Answer, accepted, refused}
 use Rattle.wire.specs.Refusal.{noSuchChannel}
 use Rattle.gaps.specs.Limits.{mostNumber}
 use Rattle.gaps.specs.Channel.{Channel, fresh, Event, ArrivalSaid, Step, natural, taken, judgeEvent}
 use Rattle.gaps.specs.History.{numberOf, top}
-use Rattle.gaps.proofs.Numbers.{lt-or-le, larger-of}
+use Rattle.gaps.proofs.Numbers.{lt-or-le, larger-of, and-split}
 use Rattle.gaps.proofs.Sets.{yes-canon}
 use Rattle.gaps.proofs.History.{top-more}
 use Rattle.gaps.proofs.Exact.{Exact, fresh-exact, taken-exact, early-exact}
@@ -24,7 +24,7 @@ use Rattle.gaps.proofs.Alone as alone
 use Rattle.gaps.proofs.Alone.{Judged, judge, leaves, words, after, play, answers, from-stays}
 use Rattle.tracker.specs.declared.Tracker.{Tracker}
 use Rattle.tracker.specs.Rules.{wellFormed}
-use Rattle.seats.specs.Rules.{isFirst}
+use Rattle.seats.specs.Rules.{ascends, isFirst}
 use Rattle.seats.specs.Seat.{placeFrom}
 use Rattle.tracker.specs.Arrived.{Arrival, place, Outcome, settled, arrive, arrivalSaid}
 use Rattle.gaps.proofs.Signed.{natural-most}
@@ -112,6 +112,22 @@ mem-at [] j h = absurd (omega arith)
 mem-at (a ∷ l) zero h = List·Memᴰ·head refl
 mem-at (a ∷ l) (suc j) h = List·Memᴰ·tail (mem-at l j (omega arith))
 
+-- numbers that ascend, from lo on, are not below lo, and each is above those before it
+not-below : (lo : ℕ) (l : List ℕ) → ascends lo l ≡ true → (j : ℕ) → j < length l → lo ≤ getD l j 0
+unfolding ascends
+not-below lo [] e j h = absurd (omega arith)
+not-below lo (n ∷ l) e zero h = leb-true lo n (and-split (leb lo n) _ e .0)
+not-below lo (n ∷ l) e (suc j) h =
+    let a = and-split (leb lo n) _ e in
+    omega (arith, leb-true lo n (a .0), not-below (n + 1) l (a .1) j (omega arith))
+
+rising : (lo : ℕ) (l : List ℕ) → ascends lo l ≡ true → (i j : ℕ) → i < j → j < length l → getD l i 0 < getD l j 0
+unfolding ascends
+rising lo [] e i j p h = absurd (omega arith)
+rising lo (n ∷ l) e i zero p h = absurd (omega arith)
+rising lo (n ∷ l) e zero (suc j) p h = omega (arith, not-below (n + 1) l (and-split (leb lo n) _ e .1) j (omega arith))
+rising lo (n ∷ l) e (suc i) (suc j) p h = rising (n + 1) l (and-split (leb lo n) _ e .1) i j (omega arith) (omega arith)
+
 module _ (ns : List ℕ) where
   -- the place of channel k in every record of this set-up
   abbrev pub seat : ℕ → ℕ
@@ -152,6 +168,24 @@ module _ (ns : List ℕ) where
         let d = List·getD-append ns (replicate {A = ℕ} (8 - length ns) 0) 0 (s .spot) (s .inside) in
         omega (arith, place-found (holder ns [] .numbers) k 0 (length ns) (s .spot) (omega arith) (omega (arith, s .inside)) (d ∙ s .here))),
   )
+
+  -- and the seat of a listed one is where it stands in the list
+  pub seat-at : Listed ns → (i : ℕ) → i < length ns → seat (getD ns i 0) ≡ i
+  seat-at o i h = go (lt-or-le s i) (lt-or-le i s)
+    where
+      s : ℕ
+      s = seat (getD ns i 0)
+
+      inside : s < length ns
+      inside = seat-listed (getD ns i 0) .1 (mem-at ns i h)
+
+      same : getD ns s 0 ≡ getD ns i 0
+      same = seat-number (getD ns i 0) inside
+
+      go : (s < i) ⊎ (i ≤ s) → (i < s) ⊎ (s ≤ i) → s ≡ i
+      go (inl a) d = absurd (omega (arith, same, rising 0 ns (o .order) s i a h))
+      go (inr a) (inl b) = absurd (omega (arith, same, rising 0 ns (o .order) i s b inside))
+      go (inr a) (inr b) = omega arith
 
   -- ---- one arrival
 

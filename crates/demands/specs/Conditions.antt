@@ -22,7 +22,8 @@ use Rattle.gaps.specs.Limits.{runLimit, mostNumber}
 use Rattle.gaps.specs.Channel.{Event, tick, heartbeat, taken}
 use Rattle.tracker.specs.declared.Tracker.{Tracker}
 use Rattle.seats.specs.Places.{channelLimit}
-use Rattle.demands.specs.Play.{channelOf, startOf}
+use Rattle.seats.specs.Rules.{leastFirst}
+use Rattle.demands.specs.Play.{channelOf, fromOf}
 
 -- ---- a frame, and its body
 
@@ -166,11 +167,11 @@ pub record Falls (numbers : List ℕ) : Type 0 where
   pub inside : suc place < length numbers
   pub falls : getD numbers (suc place) 0 ≤ getD numbers place 0
 
--- T1: a first number that is not from 1 to the largest
+-- T1: a first number that is not from the least to the largest
 pub record NoFirst (from : List ℤ) : Type 0 where
   pub place : ℕ
   pub inside : place < length from
-  pub out : (getD from place (pos 0) <ℤ pos 1) ⊎ (pos mostNumber <ℤ getD from place (pos 0))
+  pub out : (getD from place (pos 0) <ℤ pos leastFirst) ⊎ (pos mostNumber <ℤ getD from place (pos 0))
 
 -- ---- the rules that a tracker keeps, place by place
 
@@ -186,7 +187,7 @@ pub record Keeps (t : Tracker) : Type 0 where
   pub one : 1 ≤ t .count
   pub eight : t .count ≤ channelLimit
   pub ascending : (i : ℕ) → suc i < t .count → getD (t .numbers) i 0 < getD (t .numbers) (suc i) 0
-  pub first : (i : ℕ) → i < t .count → (1 ≤ getD (t .from) i 0) × (getD (t .from) i 0 ≤ mostNumber)
+  pub from : (i : ℕ) → i < t .count → (leastFirst ≤ getD (t .from) i 0) × (getD (t .from) i 0 ≤ mostNumber)
   pub highest : (i : ℕ) → i < t .count → (getD (t .from) i 0 ≤ getD (t .highest) i 0 + 1) × (getD (t .highest) i 0 ≤ mostNumber)
   pub mark : (i : ℕ) → i < channelLimit → getD (t .ended) i 0 ≤ 1
   pub runs : (i : ℕ) → i < t .count → getD (t .counts) i 0 ≤ runLimit
@@ -208,10 +209,10 @@ Low (heartbeat m end) = m <ℤ pos 0
 
 -- T13: a tick below the channel's first number
 abbrev pub Early : Tracker → ℕ → Event → Type 0
-Early t k (tick n) = n <ℤ pos (startOf t k)
+Early t k (tick n) = n <ℤ pos (fromOf t k)
 Early t k (heartbeat m end) = ⊥
 
--- R9, J4: the event is not before start, and the runs that channel k would have behind it are too many
+-- R9, J4: the event is not before start, which is judged first, and the runs that channel k would have behind it are too many
 abbrev pub Overfills : Tracker → ℕ → Event → Type 0
 Overfills t k e = (Early t k e → ⊥) × (runLimit < length (taken (channelOf t k) e .next .runs))
 

@@ -88,7 +88,7 @@ setUpRules numbers from =
     ∷ malformed if NoFirst from
     ∷ []
 
--- J4: an arrival on channel k
+-- J4: an arrival on channel k; "before start", no refusal, stands before 9 in the condition of 9
 abbrev pub arrivalRules : Tracker → ℕ → Event → List Rule
 arrivalRules t k e = malformed if (Keeps t → ⊥) ∷ noSuchChannel if NotIn t k ∷ numberTooLow if Low e ∷ tableFull if Overfills t k e ∷ []
 

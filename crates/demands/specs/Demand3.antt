@@ -5,7 +5,7 @@ use mathlib.Core.Logic.{_↔_}
 use mathlib.Core.List.{List, [], _∷_, _++_, List·Permᴰ, List·Memᴰ}
 use mathlib.Core.Bool.{Bool, true, false}
 use lib.IntN.{ℤ, pos}
-use lib.ListN.{getD}
+use lib.ListN.{length, getD}
 use Rattle.wire.specs.Answer.{accepted, refused}
 use Rattle.gaps.specs.Gaps.{has}
 use Rattle.wire.specs.Refusal.{tableFull}
@@ -14,9 +14,9 @@ use Rattle.gaps.specs.History.{Brought, top, ends, Missing, Overfull}
 use Rattle.tracker.specs.declared.Tracker.{Tracker}
 use Rattle.tracker.specs.declared.Reply.{Reply}
 use Rattle.tracker.specs.SetUp.{setUp}
-use Rattle.tracker.specs.Arrived.{Arrival, on, place, arrivalSaid}
+use Rattle.tracker.specs.Arrived.{Arrival, on, arrivalSaid}
 use Rattle.demands.specs.Calls.{Arrives}
-use Rattle.demands.specs.Play.{Fresh, Turn, Play, arrivals, only, answersTo, historyOf, NeverFull, Has, channelOf, startOf, AllCallable, Playable}
+use Rattle.demands.specs.Play.{Fresh, Turn, Play, arrivals, only, answersTo, historyOf, NeverFull, Has, channelOf, fromOf, AllCallable, Playable}
 
 -- T1: the channels that a fresh gap record holds are those of its list
 abbrev pub HoldsItsList : Type 0
@@ -25,8 +25,8 @@ HoldsItsList = (numbers : List ℕ) (from : List ℤ) (t : Tracker) → Fresh nu
 -- T1: and the first number of each is the one that came with it
 abbrev pub HoldsItsFirsts : Type 0
 HoldsItsFirsts =
-    (numbers : List ℕ) (from : List ℤ) (t : Tracker) → Fresh numbers from t → (k : ℕ) → Has t k →
-    (getD numbers (place t k) 0 ≡ k) × (pos (startOf t k) ≡ getD from (place t k) (pos 0))
+    (numbers : List ℕ) (from : List ℤ) (t : Tracker) → Fresh numbers from t → (i : ℕ) → i < length numbers →
+    pos (fromOf t (getD numbers i 0)) ≡ getD from i (pos 0)
 
 -- D31: two orders of the same arrivals, in neither of which any is answered 9, end in the same record
 abbrev pub TwoOrders : Type 0
@@ -38,17 +38,17 @@ TwoOrders =
 abbrev pub GapsFromHistory : Type 0
 GapsFromHistory =
     (numbers : List ℕ) (from : List ℤ) (t u : Tracker) (l : List Turn) → Fresh numbers from t → Play t l u → (k : ℕ) → Has t k →
-    (n : ℕ) → (has (channelOf u k .runs) n ≡ true) ↔ Missing (startOf t k) (historyOf k l) n
+    (n : ℕ) → (has (channelOf u k .runs) n ≡ true) ↔ Missing (fromOf t k) (historyOf k l) n
 
 -- D33: the first number stays, and the highest and the ended mark are the history's too
 abbrev pub MarksFromHistory : Type 0
 MarksFromHistory =
     (numbers : List ℕ) (from : List ℤ) (t u : Tracker) (l : List Turn) → Fresh numbers from t → Play t l u → (k : ℕ) → Has t k →
-    (startOf u k ≡ startOf t k) × (channelOf u k .highest ≡ top (startOf t k) (historyOf k l)) × (channelOf u k .ended ≡ ends (historyOf k l))
+    (fromOf u k ≡ fromOf t k) × (channelOf u k .highest ≡ top (fromOf t k) (historyOf k l)) × (channelOf u k .ended ≡ ends (historyOf k l))
 
 -- the next arrival e on channel k of the record t would need a 33rd run
 abbrev pub WouldFill : Tracker → ℕ → List Turn → Event → Type 0
-WouldFill t k l e = Overfull (startOf t k) (historyOf k l ++ (e ∷ []))
+WouldFill t k l e = Overfull (fromOf t k) (historyOf k l ++ (e ∷ []))
 
 -- D33: 9 exactly when the gaps of the history with this arrival would form more than 32 runs
 abbrev pub NineFromHistory : Type 0
@@ -63,10 +63,10 @@ abbrev pub TickFromHistory : Type 0
 TickFromHistory =
     (numbers : List ℕ) (from : List ℤ) (t u : Tracker) (l : List Turn) → Fresh numbers from t → Play t l u → (k : ℕ) → Has t k →
     (n : ℕ) (r : Reply) → 1 ≤ n → Arrives u (on k (tick (pos n))) r →
-    ((arrivalSaid (r .verdict) ≡ accepted beforeStart) ↔ (n < startOf t k))
-    × ((arrivalSaid (r .verdict) ≡ accepted new) ↔ ((top (startOf t k) (historyOf k l) < n) × (WouldFill t k l (tick (pos n)) → ⊥)))
-    × ((arrivalSaid (r .verdict) ≡ accepted late) ↔ (Missing (startOf t k) (historyOf k l) n × (WouldFill t k l (tick (pos n)) → ⊥)))
-    × ((arrivalSaid (r .verdict) ≡ accepted duplicate) ↔ ((startOf t k ≤ n) × Brought (historyOf k l) n))
+    ((arrivalSaid (r .verdict) ≡ accepted beforeStart) ↔ (n < fromOf t k))
+    × ((arrivalSaid (r .verdict) ≡ accepted new) ↔ ((top (fromOf t k) (historyOf k l) < n) × (WouldFill t k l (tick (pos n)) → ⊥)))
+    × ((arrivalSaid (r .verdict) ≡ accepted late) ↔ (Missing (fromOf t k) (historyOf k l) n × (WouldFill t k l (tick (pos n)) → ⊥)))
+    × ((arrivalSaid (r .verdict) ≡ accepted duplicate) ↔ ((fromOf t k ≤ n) × Brought (historyOf k l) n))
 
 -- D33: and a heartbeat's answer is heard exactly when it is not 9
 abbrev pub HeartbeatFromHistory : Type 0

@@ -21,7 +21,7 @@ use Rattle.tracker.specs.FirstRun.{lost, firstRun}
 use Rattle.tracker.specs.Request.{batch, asked, space, written, nothing, meansRequested}
 use Rattle.tracker.specs.declared.Requested.{Requested}
 use Rattle.demands.specs.Calls.{FrameRead, ReadFrame, Request}
-use Rattle.demands.specs.Play.{Fresh, Turn, Play, historyOf, Has, startOf}
+use Rattle.demands.specs.Play.{Fresh, Turn, Play, historyOf, Has, fromOf}
 
 -- Q2: bytes that begin with a frame of 390094, L 44, 56 bytes, which reads as resend type 1, channel k, the numbers of r, status 0 and spaces
 pub record Asks (k : ℕ) (r : Run) (s : List ℕ) : Type 0 where
@@ -47,7 +47,7 @@ RequestReads =
 
 -- n is missing on channel k of the record t: from its first number to the highest that accepted arrivals brought or announced, and not brought
 abbrev pub Misses : Tracker → ℕ → List Turn → ℕ → Type 0
-Misses t k l n = Missing (startOf t k) (historyOf k l) n
+Misses t k l n = Missing (fromOf t k) (historyOf k l) n
 
 -- bytes that ask for the lowest missing numbers of channel k: each number from the first to the last is missing, no lower one is,
 -- and neither is the next one, but where the batch is full

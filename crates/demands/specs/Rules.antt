@@ -29,7 +29,7 @@ pub data Judged {A : Type 0} : List Rule → Answer A → Type 1 where
   later : {r : Rule} {rs : List Rule} {a : Answer A} → (r .when → ⊥) → Judged rs a → Judged (r ∷ rs) a
 
 -- A2, Q3, T13, J8: judged by the rules; and of what they accept, "no such entry", "nothing missing" or "before start" exactly where its condition
--- holds; a rule that is judged behind it says so in its own
+-- holds. Where a refusal is judged behind such an answer, as 6 and 9 are, the refusal's own condition leaves the answer's cases out
 pub record OrNone {A : Type 0} (rules : List Rule) (none : A) (when : Type 0) (answer : Answer A) : Type 1 where
   pub judged : Judged rules answer
   pub none-when : (x : A) → answer ≡ accepted x → (x ≡ none) ↔ when

@@ -413,8 +413,8 @@ holder-start ns fs h =
     let e : n * 32 + (256 - n * 32) ≡ 256 = omega arith in
     let z : replicate (n * 32) 0 ++ replicate (256 - n * 32) 0 ≡ replicate {A = ℕ} 256 0 = replicate-append-replicate {A = ℕ} (n * 32) (256 - n * 32) 0 ∙ ap (λ (m : ℕ). replicate m 0) e in
     rw (
-      field (λ (c : Channel). c .from) (λ (z : ℤ). natural z - 0) (λ y. omega arith) fs,
-      field (λ (c : Channel). c .highest) (λ (z : ℤ). natural z - 1) (λ y. refl) fs,
+      field (λ (c : Channel). c .from) natural (λ y. refl) fs,
+      field (λ (c : Channel). c .highest) (λ (z : ℤ). fresh (natural z) .highest) (λ y. refl) fs,
       zeros (λ (c : Channel). mark (c .ended)) (λ y. refl) fs,
       zeros (λ (c : Channel). length (c .runs)) (λ y. refl) fs,
       rows-start firsts refl fs,

@@ -1,13 +1,14 @@
 -- The places that first numbers fill, each less by the same.
 use Prim.Native.Nat.{ℕ, zero, suc, _+_, _-_, _≤_, _<_}
 use native.Mathlib.Omega.{arith}
-use mathlib.Core.Path.{_≡_, refl, _∙_}
+use mathlib.Core.Path.{_≡_, refl, ap, _∙_}
 use mathlib.Core.List.{List, [], _∷_, map}
 use lib.IntN.{ℤ, pos}
 use lib.ListN.{length, take, getD, set, length-map}
 use Rattle.gaps.specs.Channel.{natural}
 use Rattle.rows.proofs.Begin.{filled, filled-more, filled-all, filled-eight}
-use Rattle.tracker.specs.SetUp.{lowered}
+use Rattle.gaps.specs.Built.{padded}
+use Rattle.tracker.specs.Inside.{lowered}
 
 -- the numbers themselves
 abbrev pub less : ℕ → List ℤ → List ℕ
@@ -25,6 +26,14 @@ less-take : (by : ℕ) (fs : List ℤ) (n : ℕ) → take n (less by fs) ≡ les
 less-take by fs zero = refl
 less-take by [] (suc n) = refl
 less-take by (z ∷ fs) (suc n) = rw (less-take by fs n)
+
+less-none : (fs : List ℤ) → less 0 fs ≡ map natural fs
+less-none [] = refl
+less-none (z ∷ fs) = let e : natural z - 0 ≡ natural z = omega arith in rw (e, less-none fs)
+
+-- less by nothing
+pub lowered-none : (fs : List ℤ) → lowered 0 fs ≡ padded 8 (map natural fs)
+lowered-none fs = ap (padded 8) (less-none fs)
 
 module _ (by : ℕ) (fs : List ℤ) (i : ℕ) where
   pub lowered-more : i < length fs → i < 8 → (n : ℕ) → n ≡ natural (getD fs i (pos 0)) - by → set (filled (less by fs) i) i n ≡ filled (less by fs) (i + 1)

@@ -1,16 +1,18 @@
 -- What the private functions of the crate promise to one another.
 use Prim.Native.Nat.{ℕ, _+_, _*_, _-_, _≤_, _<_}
 use mathlib.Core.Path.{_≡_}
-use mathlib.Core.List.{List, []}
+use mathlib.Core.List.{List, [], map}
 use mathlib.Core.Bool.{Bool, true, false, cond}
 use lib.Dec.{ltb, eqb}
+use lib.IntN.{ℤ}
 use lib.ListN.{length, getD, set}
 use Rattle.wire.specs.Answer.{Answer, accepted, refused}
 use Rattle.wire.specs.Refusal.{noSuchChannel, tableFull, malformed}
 use Rattle.gaps.specs.declared.Run.{Run}
 use Rattle.gaps.specs.Limits.{runLimit}
 use Rattle.gaps.specs.Gaps.{grow}
-use Rattle.gaps.specs.Channel.{changed, Event, ArrivalSaid, tooLow, judgeEvent}
+use Rattle.gaps.specs.Built.{padded}
+use Rattle.gaps.specs.Channel.{changed, natural, Event, ArrivalSaid, tooLow, judgeEvent}
 use Rattle.seats.specs.Arrays.{Lent, Passed, inArrays}
 use Rattle.seats.specs.Places.{channelLimit, placeCount}
 use Rattle.seats.specs.Rules.{soundRow}
@@ -27,6 +29,12 @@ use Rattle.tracker.specs.declared.Judged.the-variants.{Refused, At}
 use Rattle.tracker.specs.Places.{made, channelAt, put}
 use Rattle.tracker.specs.Arrived.{Outcome, on, settled, arrive, answered}
 use Rattle.tracker.specs.FirstRun.{Lost, lost, nothingMissing}
+
+-- ---- a set-up
+
+-- first numbers in the places of channels, each less by the same
+abbrev pub lowered : ℕ → List ℤ → List ℕ
+lowered by from = padded channelLimit (map (λ (z : ℤ). natural z - by) from)
 
 -- ---- an arrival's channel
 

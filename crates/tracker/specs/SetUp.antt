@@ -1,5 +1,5 @@
 -- The set-up of a tracker with its channels and their first numbers.
-use Prim.Native.Nat.{ℕ, _-_}
+use Prim.Native.Nat.{ℕ}
 use mathlib.Core.List.{List, [], map}
 use mathlib.Core.Bool.{not}
 use lib.IntN.{ℤ}
@@ -7,7 +7,7 @@ use lib.ListN.{length, replicate}
 use Rattle.wire.specs.Answer.{Answer, accepted, refused, guard}
 use Rattle.wire.specs.Refusal.{malformed}
 use Rattle.gaps.specs.Built.{padded}
-use Rattle.gaps.specs.Channel.{natural}
+use Rattle.gaps.specs.Channel.{natural, fresh}
 use Rattle.seats.specs.Places.{channelLimit, placeCount}
 use Rattle.seats.specs.Rules.{channelsListed}
 use Rattle.tracker.specs.declared.Tracker.{Tracker}
@@ -29,13 +29,11 @@ blankWith count numbers from highest =
       last = replicate placeCount 0;
     }
 
--- first numbers in the places of channels, each less by the same
-abbrev pub lowered : ℕ → List ℤ → List ℕ
-lowered by from = padded channelLimit (map (λ (z : ℤ). natural z - by) from)
-
--- T1: a tracker of these channels that nothing has reached: each highest number is one below the first
+-- T1: a tracker of these channels, each with its first number, that nothing has reached
 abbrev pub blankOf : List ℕ → List ℤ → Tracker
-blankOf numbers from = blankWith (length numbers) (padded channelLimit numbers) (lowered 0 from) (lowered 1 from)
+blankOf numbers from =
+    blankWith (length numbers) (padded channelLimit numbers) (padded channelLimit (map natural from))
+    (padded channelLimit (map (λ (z : ℤ). fresh (natural z) .highest) from))
 
 -- T1: what the set-up answers, and the tracker that it gives
 pub record Ready : Type 0 where

@@ -3,7 +3,7 @@ ghost use mathlib.Core.Path.{_≡_};
 ghost use Prim.Native.Nat.{_-_};
 ghost use lib.ListN.{take};
 ghost use Rattle.seats.specs.Places.{channelLimit};
-ghost use Rattle.tracker.specs.SetUp.{lowered};
+ghost use Rattle.tracker.specs.Inside.{lowered};
 use crate::Tracker;
 use crate::signs;
 
