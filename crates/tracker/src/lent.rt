@@ -150,7 +150,8 @@ fn heard(
     requires { ⌜ SoundFrom (now highest) (now ended) (now counts) (now first) (now last) at ⌝ }
     ensures { λ r. ⌜ Becomes r (stepped at (heartbeat (pos m) end)) highest ended counts first last ⌝ }
 {
-    let marked = (ended[at] == 1) | end;
+    let before = ended[at] == 1;
+    let marked = before | end;
     if highest[at] < m {
         return raise(
             at,
