@@ -1,5 +1,5 @@
 /* A receiver of two channels that joins them late: reads a capture of any length from standard input, as it would read a socket,
- * prints the levels of each snapshot, tracks which numbers never came since it joined, and asks for them.
+ * prints the levels of each snapshot, tracks which numbers never came, from its first numbers on, and asks for them.
  *
  *     ./install target/prefix
  *     export PKG_CONFIG_PATH=$PWD/target/prefix/lib/pkgconfig
@@ -32,8 +32,8 @@
  *
  * On a tick's other answers:
  * 103 LATE           a number that was missing: takes the record, and asks for it no more
- * 104 DUPLICATE      a number that had come: passes the record over
- * 108 BEFORE_START   a number below the channel's first number: passes the record over; nobody asks for it
+ * 104 DUPLICATE      a number that had come, and is not before start: passes the record over
+ * 108 BEFORE_START   a number below the channel's first number: passes the record over, and never asks for it
  *
  * And on the stream's other answers:
  * 106 MORE           the cut is taken, and no frame is whole yet: reads the next cut, of any size. missing is what the header lacks
@@ -231,7 +231,7 @@ static int receive(uint64_t offset, uint32_t kind, const uint8_t *body, size_t l
     return 0;
 }
 
-/* where highest is one below from, no number came or was announced */
+/* where highest is one below from, no number from there on came or was announced */
 static void print_channels(void)
 {
     for (size_t c = 0; c < tracker.count; c++) {

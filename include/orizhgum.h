@@ -93,7 +93,7 @@ enum {
     ORIZHGUM_NO_SUCH_ENTRY = 101,  /* a position not below the count */
     ORIZHGUM_NO_PRICE = 102,       /* an entry that says no price; the lent number is as it stood */
     ORIZHGUM_LATE = 103,           /* a tick that was missing */
-    ORIZHGUM_DUPLICATE = 104,      /* a tick that had come before */
+    ORIZHGUM_DUPLICATE = 104,      /* a tick that had come before, and is not below its channel's first number */
     ORIZHGUM_NOTHING_MISSING = 105, /* a request for a channel without a missing number */
     ORIZHGUM_MORE = 106,           /* the whole cut is taken, and no frame is whole yet; missing says how many bytes */
     ORIZHGUM_END = 107,            /* the stream was told to have ended, and nothing is left over */
@@ -475,8 +475,8 @@ struct orizhgum_start_answer {
 };
 
 /* 1 to 8 channel numbers, strictly ascending, and as many first numbers, from[i] that of channels[i], each at least 1: 1 on a board
- * that is there from the start of the day; on one that joins at noon the first number that it is to have, as one above the last
- * number that it heard of. A channel's highest begins one below its first number, and no number below its first number is ever
+ * that is there from the start of the day; on one that joins at noon the first number that it is to have, for instance one above
+ * the last number that it heard of. A channel's highest begins one below its first number, and no number below its first number is ever
  * missing. The largest first number, INT64_MAX, lets exactly one number come. Refused by 10: no channels, more than 8, channels that
  * don't strictly ascend; lists of different lengths; a first number below 1. The tracker is all zeros then, which any later call
  * refuses by 10 */
@@ -489,8 +489,8 @@ uint32_t orizhgum_tick_in(size_t count, const uint16_t *numbers, const uint64_t 
 uint32_t orizhgum_heard_in(size_t count, const uint16_t *numbers, const uint64_t *from, uint64_t *highest, uint8_t *ended,
     size_t *counts, uint64_t *first, uint64_t *last, uint16_t channel, int64_t last_number, uint8_t end);
 
-/* 0 where the number is new, ORIZHGUM_LATE where it was missing, ORIZHGUM_DUPLICATE where it had come, ORIZHGUM_BEFORE_START where
- * it is below the channel's first number; the last two change nothing */
+/* ORIZHGUM_BEFORE_START where the number is below the channel's first number, however often it comes; else 0 where it is new,
+ * ORIZHGUM_LATE where it was missing, ORIZHGUM_DUPLICATE where it had come. Before start and duplicate change nothing */
 static inline uint32_t orizhgum_tick(struct orizhgum_tracker *tracker, uint16_t channel, int64_t number)
 {
     return orizhgum_tick_in(tracker->count, tracker->numbers, tracker->from, tracker->highest, tracker->ended,

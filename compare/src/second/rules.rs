@@ -47,7 +47,8 @@ pub struct Rules {
     pub runs: usize,
     /// A request asks for up to this many numbers.
     pub batch: u64,
-    /// What a channel's first number, from which gaps run, may be.
+    /// What a channel's first number, from which gaps run, may be: a limit of
+    /// its own, so that a broken receiver can have another.
     pub first_numbers: (u64, u64),
     /// The highest number that there can be.
     pub number_limit: u64,
