@@ -474,12 +474,12 @@ struct orizhgum_start_answer {
     struct orizhgum_tracker tracker;
 };
 
-/* 1 to 8 channel numbers, strictly ascending, and as many first numbers, from[i] that of channels[i], each at least 1: 1 on a board
- * that is there from the start of the day; on one that joins at noon the first number that it is to have, for instance one above
- * the last number that it heard of. A channel's highest begins one below its first number, and no number below its first number is ever
- * missing. The largest first number, INT64_MAX, lets exactly one number come. Refused by 10: no channels, more than 8, channels that
- * don't strictly ascend; lists of different lengths; a first number below 1. The tracker is all zeros then, which any later call
- * refuses by 10 */
+/* 1 to 8 channel numbers, strictly ascending, and as many first numbers, from[i] that of channels[i], each at least 1: 1 on a
+ * board that is there from the start of the day; on one that joins at noon the first number that it is to have, for instance one
+ * above the last number that it heard of. A channel's highest begins one below its first number, and no number below its first
+ * number is ever missing. The largest first number, INT64_MAX, lets exactly one number come. Refused by 10: no channels, more
+ * than 8, channels that don't strictly ascend; lists of different lengths; a first number below 1. The tracker is all zeros then,
+ * which any later call refuses by 10 */
 struct orizhgum_start_answer orizhgum_set_up(const uint16_t *channels, size_t length, const int64_t *from, size_t from_length);
 
 /* what the archive has: the calls below over the arrays of a tracker, none of which overlaps another */
