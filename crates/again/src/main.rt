@@ -1,4 +1,6 @@
 // Standard input's frames of listed types, read and written again: the same bytes, where a body has no tail.
+#![tactic(auto)]
+
 ghost use Rattle.std.specs.Prelude.{◌≤◌, length};
 
 use frame::{Frame, Framed};

@@ -1,4 +1,6 @@
 // The bodies of frames that are to be written: the fields of a record judged and stored, for each listed type.
+#![tactic(auto)]
+
 mod channel_heartbeat;
 mod common;
 mod groups;

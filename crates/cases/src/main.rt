@@ -1,4 +1,6 @@
 // Cases that are run: what the writer refuses, with the output that it leaves; a full gap table; requests; decimals.
+#![tactic(auto)]
+
 mod asking;
 mod decimals;
 mod refused;

@@ -1,4 +1,6 @@
 // A gate program: standard input, handed to the stream reader in cuts of one size after the other, and listed as `list` does each time.
+#![tactic(auto)]
+
 ghost use Rattle.std.specs.Prelude.{◌≤◌, length};
 
 use frame::Frame;

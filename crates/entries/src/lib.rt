@@ -1,4 +1,6 @@
 // The entries of a snapshot or an index: what each says, by position and by a cursor.
+#![tactic(auto)]
+
 mod cursor;
 mod entry;
 

@@ -1,4 +1,6 @@
 // Two trackers' arrays joined: what either received is received, and a refused join changes nothing.
+#![tactic(auto)]
+
 ghost use Rattle.std.specs.Prelude.{◌≡◌};
 ghost use Rattle.seats.specs.Arrays.{at_entry, at_end};
 ghost use Rattle.wire.specs.Number.{answer_number};

@@ -1,4 +1,6 @@
 // Widths, offsets and sizes of the ten layouts, the decimals and ranges of their fields, and the groups behind a count. Every public function is total.
+#![tactic(auto)]
+
 pub mod channel_heartbeat;
 pub mod common;
 pub mod decimals;

@@ -1,4 +1,6 @@
 // The listing program: offset, type and body length of each frame on standard input, up to the end or to a refusal 1 to 3.
+#![tactic(auto)]
+
 ghost use Rattle.std.specs.Prelude.{◌≤◌, length};
 
 use frame::{Frame, Framed};

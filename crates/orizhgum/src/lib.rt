@@ -1,4 +1,6 @@
 // The C interface: exported functions over the crates below. Answer 0 is the plain one, 1 to 99 are the refusals.
+#![tactic(auto)]
+
 ghost use Rattle.std.specs.Prelude.{◌≡◌};
 ghost use Rattle.frame.specs.Framing.{read, header_width, body_limit};
 ghost use Rattle.orizhgum.specs.Framed.{frame_answer};

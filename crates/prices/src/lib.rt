@@ -1,4 +1,6 @@
 // Entries as a host sees them: an entry without its price, and the price by itself, in a number that is lent for it.
+#![tactic(auto)]
+
 mod entry;
 mod step;
 

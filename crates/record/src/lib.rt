@@ -1,4 +1,6 @@
 // Typed records of the ten listed types: a frame's type and body in, a record out, or refusal 4 or 5.
+#![tactic(auto)]
+
 ghost use Rattle.std.specs.Prelude.{◌≡◌, []};
 ghost use Rattle.wire.specs.Answer.{accepted, refused};
 ghost use Rattle.layout.specs.Layout.{named};

@@ -1,4 +1,6 @@
 // A channel's row of runs in a tracker's arrays: searched for a number, grown, closed up and opened.
+#![tactic(auto)]
+
 ghost use Rattle.std.specs.Prelude.{◌≡◌, take};
 ghost use Rattle.gaps.specs.Gaps.{run};
 ghost use Rattle.gaps.specs.Built.{padded};

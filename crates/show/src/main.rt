@@ -1,4 +1,6 @@
 // A bench program: the frames of standard input, decoded. A line for each record, an indented line for each group and entry.
+#![tactic(auto)]
+
 ghost use Rattle.std.specs.Prelude.{◌≤◌, length};
 
 mod below;

@@ -1,4 +1,6 @@
 // A stream that comes in cuts: one frame at a time, and an unfinished frame kept in a lent buffer.
+#![tactic(auto)]
+
 ghost use Rattle.std.specs.Prelude.{◌≡◌};
 ghost use Rattle.frame.specs.Framing.{header_width, body_limit};
 ghost use Rattle.streams.specs.Stream.{new_stream, pushed, buffer_left, ended};

@@ -1,4 +1,6 @@
 // Text for the programs: bytes, decimal numbers and the listing's lines, one behind the other in a lent buffer.
+#![tactic(auto)]
+
 ghost use Rattle.std.specs.Prelude.{◌≡◌, [], ◌∷◌};
 ghost use Rattle.wire.specs.Bytes.{put_at};
 ghost use Rattle.text.specs.Text.{decimal_of, offset_behind, put_each, offset_behind_each, frame_line, last_line};

@@ -1,4 +1,6 @@
 // The gap record of up to eight channels: which numbers never came, in whatever order they came.
+#![tactic(auto)]
+
 ghost use Rattle.std.specs.Prelude.{◌≡◌};
 ghost use Rattle.gaps.specs.Channel.{tick, heartbeat};
 ghost use Rattle.wire.specs.Number.{answer_number};

@@ -1,4 +1,6 @@
 // What the programs share: a window that slides over standard input, and lines that are written together.
+#![tactic(auto)]
+
 ghost use Rattle.std.specs.Prelude.{◌≡◌, ◌≤◌, max, length, take};
 ghost use Rattle.window.specs.Window.{slid, moved, still_held};
 

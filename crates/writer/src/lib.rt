@@ -1,4 +1,6 @@
 // Frames from records, texts and groups.
+#![tactic(auto)]
+
 ghost use Rattle.std.specs.Prelude.{◌≡◌, ◌+◌, ◌≤◌};
 ghost use Rattle.wire.specs.Answer.{and_then};
 ghost use Rattle.frame.specs.Framing.{body_limit};
