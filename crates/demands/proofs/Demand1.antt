@@ -6,7 +6,7 @@ use mathlib.Core.Bool.{Bool, true, false, true≢false, false≢true, not, cond,
 use mathlib.Core.Logic.{◌↔◌, ◌⊎◌, inl, inr, ⊎_elim}
 use mathlib.Core.List.{List, [], ◌∷◌}
 use native.Mathlib.Omega.{arith}
-use borrow.Author.Tests.{lt_ltb, le_ltb, ltb-true, ltb-false, leb-true, leb-false, le-leb, eqb-true, eqb-false, not-true, not-false}
+use borrow.Author.Tests.{lt-ltb, le-ltb, ltb-true, ltb-false, leb-true, leb-false, le-leb, eqb-true, eqb-false, not-true, not-false}
 use lib.Dec.{T, ltb, leb, eqb}
 use lib.IntN.{ℤ, pos, negsuc}
 use lib.ListN.{length, get_or}
@@ -299,16 +299,16 @@ no_first (negsuc n) e = inl (lt_z_yes tt)
 no_first (pos n) e = go (leb 1 n) refl
   where
     go : (b : Bool) → leb 1 n ≡ b → (pos n <ℤ pos 1) ⊎ (pos most_number <ℤ pos n)
-    go true f = let g : leb n most_number ≡ false = rw f at e in inr (lt_z_yes (subst T (sym (lt_ltb most_number n (leb-false n most_number g))) tt))
-    go false f = inl (lt_z_yes (subst T (sym (lt_ltb n 1 (leb-false 1 n f))) tt))
+    go true f = let g : leb n most_number ≡ false = rw f at e in inr (lt_z_yes (subst T (sym (lt-ltb most_number n (leb-false n most_number g))) tt))
+    go false f = inl (lt_z_yes (subst T (sym (lt-ltb n 1 (leb-false 1 n f))) tt))
 
 a_first : (z : ℤ) → is_first (natural z) ≡ true → (z <ℤ pos 1) ⊎ (pos most_number <ℤ z) → ⊥
 a_first (negsuc n) e k = false≢true e
 a_first (pos n) e k =
     let a = and_both (leb 1 n) _ e in
     ⊎_elim
-    (λ l. subst T (le_ltb n 1 (leb-true 1 n a.0)) l.lt)
-    (λ l. subst T (le_ltb most_number n (leb-true n most_number a.1)) l.lt)
+    (λ l. subst T (le-ltb n 1 (leb-true 1 n a.0)) l.lt)
+    (λ l. subst T (le-ltb most_number n (leb-true n most_number a.1)) l.lt)
     k
 
 firsts_by : (l : List ℤ) → first_numbers l ≡ false → NoFirst l

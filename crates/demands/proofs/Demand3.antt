@@ -10,7 +10,7 @@ use lib.Dec.{eqb, ltb}
 use lib.IntN.{ℤ, pos}
 use lib.ListN.{length, get_or, length-map}
 use lib.Seq.{ext_get_or}
-use borrow.Author.Tests.{eqb-true, eqb-false, ltb-false, not-true, le_ltb}
+use borrow.Author.Tests.{eqb-true, eqb-false, ltb-false, not-true, le-ltb}
 use Rattle.wire.specs.Answer.{Answer, accepted, refused, guard}
 use Rattle.wire.specs.Refusal.{table_full, no_such_channel, malformed}
 use Rattle.gaps.specs.Channel.{Channel, fresh, Event, tick, ArrivalSaid, new, late, duplicate, heard, before_start, Step, judge_event, natural, too_low, heartbeat, announced}
@@ -247,7 +247,7 @@ nine_from_history ns fs t u l f p k h e r low q =
 pub tick_from_history : TickFromHistory
 tick_from_history ns fs t u l f p k h n r s q =
     let v = view ns fs t u l f p k h in
-    let low : too_low (tick (pos n)) ≡ false = le_ltb n 1 s in
+    let low : too_low (tick (pos n)) ≡ false = le-ltb n 1 s in
     let c = channel_of u k in
     let g = history_of k l in
     let b : (words (judge_event c (tick (pos n))) ≡ accepted before_start) ↔ (n < from_of t k) = rw (sym v.right.own) (says_before c n low) in
@@ -259,7 +259,7 @@ unfolding announced
 heartbeat_from_history ns fs t u l f p k h m end r q =
     let v = view ns fs t u l f p k h in
     let e = heartbeat (pos m) end in
-    let low : too_low e ≡ false = le_ltb m 0 zero-le in
+    let low : too_low e ≡ false = le-ltb m 0 zero-le in
     rw (v.answer e r (arrives_as q)) (
       λ w. (alone.accepted-says (from_of t k) (channel_of u k) (history_of k l) v.right v.size e heard (λ d. let z : ◌≡◌ {A = ℕ} 0 1 = cc in omega arith) w).2,
       λ w. alone.accepts (from_of t k) (channel_of u k) (history_of k l) v.right v.size e low refl w,

@@ -7,7 +7,7 @@ use mathlib.Core.Logic.{◌↔◌}
 use mathlib.Core.List.{List, [], ◌∷◌, ◌++◌}
 use native.Mathlib.Nat.{sub-zero}
 use native.Mathlib.Omega.{arith}
-use borrow.Author.Tests.{lt_ltb, le_ltb, ltb-true, ltb-false, eqb-true, eq-eqb, not-true, not-false}
+use borrow.Author.Tests.{lt-ltb, le-ltb, ltb-true, ltb-false, eqb-true, eq-eqb, not-true, not-false}
 use lib.Dec.{ltb, eqb}
 use lib.IntN.{ℤ}
 use lib.ListN.{length}
@@ -94,12 +94,12 @@ short n = refused too_short (n ∷ [])
 
 pub by_reading : (s : List ℕ) (a : Answer Frame) → Reading header_width body_limit s a → Judged (frame_rules s) a
 by_reading s a (no_header i) =
-    let m : 8 - length s ≡ lacks s = rw (lt_ltb (length s) 8 i) in
+    let m : 8 - length s ≡ lacks s = rw (lt-ltb (length s) 8 i) in
     answered (ap short m) (here i)
 by_reading s a (is_too_long i e j) = later (above i) (here (rw e at j))
 by_reading s a (cut {n} i e j k) =
     let c : length s < 12 + L s = omega arith in
-    let t : 12 + L s - length s ≡ lacks s = rw (le_ltb (length s) 8 i) in
+    let t : 12 + L s - length s ≡ lacks s = rw (le-ltb (length s) 8 i) in
     let m : header_width + n + sum_width - length s ≡ lacks s = omega arith in
     answered (ap short m) (later (above i) (later (above (rw e at j)) (here c)))
 by_reading s a (is_wrong_sum i e j k w) =

@@ -7,7 +7,7 @@ use mathlib.Core.Logic.{◌⊎◌, inl, inr, ◌↔◌}
 use mathlib.Core.List.{List, [], ◌∷◌, ◌++◌}
 use native.Mathlib.Nat.{sub-zero}
 use native.Mathlib.Omega.{arith}
-use borrow.Author.Tests.{lt_ltb, le_ltb}
+use borrow.Author.Tests.{lt-ltb, le-ltb}
 use lib.Dec.{lit≤, lit<}
 use lib.ListN.{length, take}
 use Rattle.wire.specs.Answer.{Answer, refused}
@@ -152,9 +152,9 @@ cut_short s l x = omega (arith, x.0)
 
 -- what held bytes lack
 lacks_far : {s : List ℕ} {w r : ℕ} → Far header_width body_limit s w r → 0 < w → w ≡ lacks s
-lacks_far {s} (in_header a) z = rw (lt_ltb (length s) 8 a)
+lacks_far {s} (in_header a) z = rw (lt-ltb (length s) 8 a)
 lacks_far (above a b) z = absurd (omega arith)
-lacks_far {s} (in_body a b d) z = let e : end_of header_width s - length s ≡ 12 + L s - length s = omega arith in rw (le_ltb (length s) 8 a) e
+lacks_far {s} (in_body a b d) z = let e : end_of header_width s - length s ≡ 12 + L s - length s = omega arith in rw (le-ltb (length s) 8 a) e
 lacks_far (at-end a b d) z = absurd (omega arith)
 
 held_lacks : {buffer : List ℕ} {held : ℕ} → Holding header_width body_limit buffer held → wanting header_width body_limit (take held buffer) ≡ lacks (take held buffer)

@@ -5,7 +5,7 @@ use mathlib.Core.Path.{◌≡◌, refl, ◌∙◌}
 use mathlib.Core.Bool.{true}
 use mathlib.Core.List.{List, [], ◌∷◌}
 use native.Mathlib.Omega.{arith}
-use borrow.Author.Tests.{eq-eqb, ne_eqb, lt_ltb, le_ltb}
+use borrow.Author.Tests.{eq-eqb, ne_eqb, lt-ltb, le-ltb}
 use lib.Dec.{leb, lit<}
 use lib.ListN.{length, take, drop}
 use mir.Syntax.{w64}
@@ -177,14 +177,14 @@ module _ (type : ℕ) (s : List ℕ) where
 
 pub quantity-found : {s : List ℕ} {p j : ℕ} → SnapshotEntry s p → j < be_at s (p + 28) 4 → accepted (quantity_at snapshot_entries s p j) ≡ accepted (found (to_z w64 (be_at s (p + 32 + 8 * j) 8)))
 unfolding size
-quantity-found n h = rw (n.shows, lt_ltb _ _ h)
+quantity-found n h = rw (n.shows, lt-ltb _ _ h)
 
 pub quantity-behind : {s : List ℕ} {p j : ℕ} → SnapshotEntry s p → be_at s (p + 28) 4 ≤ j → accepted (quantity_at snapshot_entries s p j) ≡ accepted no_such_entry
 unfolding size
-quantity-behind n h = rw (n.shows, le_ltb _ _ h)
+quantity-behind n h = rw (n.shows, le-ltb _ _ h)
 
 pub quantity-none : {s : List ℕ} {p : ℕ} (j : ℕ) → IndexEntry s p → accepted (quantity_at index_entries s p j) ≡ accepted no_such_entry
-quantity-none j n = rw (n.shows, le_ltb _ _ zero-le)
+quantity-none j n = rw (n.shows, le-ltb _ _ zero-le)
 
 -- ---- a step
 

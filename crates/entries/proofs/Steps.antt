@@ -5,7 +5,7 @@ use mathlib.Core.Path.{◌≡◌, refl, ap, sym, ◌∙◌}
 use mathlib.Core.Bool.{true, ◌&&◌}
 use mathlib.Core.List.{List}
 use native.Mathlib.Omega.{arith}
-use borrow.Author.Tests.{lt_ltb, le_ltb}
+use borrow.Author.Tests.{lt-ltb, le-ltb}
 use lib.Dec.{lit<, leb-suc-suc}
 use Rattle.wire.specs.Answer.{Answer, accepted, refused, guard, and_then}
 use Rattle.layout.specs.Layout.{Message, fields, Listed, listed, unlisted, named, Group, Behind, nothing, groups, entries, behind, Entries, entry_group, ranges}
@@ -67,9 +67,9 @@ module _ (m : Message) (e : Entries) (b : behind m ≡ entries e) (s : List ℕ)
   unfolding step_after group_offset
   from zero p zero j = rw (step_is (record { offset = p; left = 0 }), step-none e s p 0 refl)
   from zero p (suc k) j =
-      rw (step_is (record { offset = p; left = suc k }), step-found e s p (suc k) (λ z. omega arith) (first-accepted (entry_group e) s p k j), lt_ltb 0 (suc k) (omega arith))
+      rw (step_is (record { offset = p; left = suc k }), step-found e s p (suc k) (λ z. omega arith) (first-accepted (entry_group e) s p k j), lt-ltb 0 (suc k) (omega arith))
   from (suc i) p zero j =
-      rw (step_is (record { offset = p; left = 0 }), step-none e s p 0 refl, le_ltb (suc i) 0 (omega arith))
+      rw (step_is (record { offset = p; left = 0 }), step-none e s p 0 refl, le-ltb (suc i) 0 (omega arith))
   from (suc i) p (suc k) j =
       rw (step_is (record { offset = p; left = suc k }), step-found e s p (suc k) (λ z. omega arith) (first-accepted (entry_group e) s p k j), pred_is k)
       (from i (next_offset (entry_group e) s p) k (rest_accepted (entry_group e) s p k j) ∙ ap accepted (sym (below_more i k _)))

@@ -6,7 +6,7 @@ use mathlib.Core.Bool.{Bool, true, false}
 use mathlib.Core.Logic.{⊎_elim}
 use mathlib.Core.List.{List, [], ◌∷◌, ◌++◌}
 use native.Mathlib.Omega.{arith}
-use borrow.Author.Tests.{le_ltb, lt_ltb, ltb-true, ltb-false}
+use borrow.Author.Tests.{le-ltb, lt-ltb, ltb-true, ltb-false}
 use lib.Dec.{ltb}
 use lib.ListN.{length, take, drop, length-append, take-append-drop}
 use lib.Seq.{length-take-le}
@@ -45,10 +45,10 @@ module _ {h limit : ℕ} {s : List ℕ} where
 
   pub reaches : {w r : ℕ} → Far h limit s w r → reach h limit s ≡ r
   unfolding reach
-  reaches (in_header a) = rw (lt_ltb (length s) h a)
-  reaches (above a b) = rw (le_ltb (length s) h a, lt_ltb limit (length_of h s) b)
-  reaches (in_body a b d) = rw (le_ltb (length s) h a, le_ltb limit (length_of h s) b, lt_ltb (length s) (end_of h s) d)
-  reaches (at-end a b d) = rw (le_ltb (length s) h a, le_ltb limit (length_of h s) b, le_ltb (length s) (end_of h s) d)
+  reaches (in_header a) = rw (lt-ltb (length s) h a)
+  reaches (above a b) = rw (le-ltb (length s) h a, lt-ltb limit (length_of h s) b)
+  reaches (in_body a b d) = rw (le-ltb (length s) h a, le-ltb limit (length_of h s) b, lt-ltb (length s) (end_of h s) d)
+  reaches (at-end a b d) = rw (le-ltb (length s) h a, le-ltb limit (length_of h s) b, le-ltb (length s) (end_of h s) d)
 
 -- a refusal says what is missing
 pub wanting-of : (h limit : ℕ) (s : List ℕ) {n : ℕ} {vs : List ℕ} → read h limit s ≡ refused n vs → wanting h limit s ≡ missing_by vs

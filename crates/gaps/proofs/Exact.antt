@@ -7,7 +7,7 @@ use mathlib.Core.Logic.{◌⊎◌, inl, inr, ⊎_elim}
 use mathlib.Core.List.{List, [], ◌∷◌, ◌++◌}
 use mathlib.Core.Bool.{Bool, true, false, false≢true, ◌||◌, or-false}
 use lib.IntN.{pos, negsuc}
-use borrow.Author.Tests.{le-leb, lt-leb, lt_ltb, le_ltb, ltb-true}
+use borrow.Author.Tests.{le-leb, lt-leb, lt-ltb, le-ltb, ltb-true}
 use Rattle.gaps.specs.declared.Run.{Run}
 use Rattle.gaps.specs.Gaps.{larger, has, cut_all, fill}
 use Rattle.gaps.specs.Channel.{Channel, fresh, changed, Event, tick, heartbeat, new, late, duplicate, natural, ticked, announced, taken, too_low, too_early}
@@ -22,16 +22,16 @@ module _ (c : Channel) (n : ℕ) where
   pub ticked-new : c.highest < n →
       ticked c n ≡ record { said = new; next = changed c n c.ended (fill c.runs c.highest (n - 1)) }
   unfolding ticked
-  ticked-new h = rw (lt_ltb c.highest n h)
+  ticked-new h = rw (lt-ltb c.highest n h)
 
   pub ticked-late : n ≤ c.highest → has c.runs n ≡ true →
       ticked c n ≡ record { said = late; next = changed c c.highest c.ended (cut_all c.runs n) }
   unfolding ticked
-  ticked-late h e = rw (le_ltb c.highest n h, e)
+  ticked-late h e = rw (le-ltb c.highest n h, e)
 
   pub ticked_again : n ≤ c.highest → has c.runs n ≡ false → ticked c n ≡ record { said = duplicate; next = c }
   unfolding ticked
-  ticked_again h e = rw (le_ltb c.highest n h, e)
+  ticked_again h e = rw (le-ltb c.highest n h, e)
 
 -- ---- fill, which grows where there is something to add
 

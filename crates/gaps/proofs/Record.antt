@@ -5,7 +5,7 @@ use native.Mathlib.Omega.{arith}
 use mathlib.Core.Path.{◌≡◌, refl, ap, sym, ◌∙◌, subst}
 use mathlib.Core.Logic.{◌⊎◌, inl, inr, ⊎_elim, ◌↔◌}
 use mathlib.Core.List.{List, [], ◌∷◌}
-use mathlib.Core.Bool.{Bool, true, false, false≢true, cond, not, ◌||◌, or-false, or_true}
+use mathlib.Core.Bool.{Bool, true, false, false≢true, cond, not, ◌||◌, or-false, or-true}
 use lib.Dec.{eqb}
 use lib.IntN.{pos, negsuc}
 use lib.ListN.{length}
@@ -112,7 +112,7 @@ yes_brought : (h : List Event) (n : ℕ) → Brought h n → brought_in h n ≡ 
 unfolding brought_in
 yes_brought [] n w = absurd w
 yes_brought (tick (pos k) ∷ h) n (inl w) = rw (eq-eqb k n (ap natural w))
-yes_brought (tick (pos k) ∷ h) n (inr w) = rw (yes_brought h n w, or_true (eqb k n))
+yes_brought (tick (pos k) ∷ h) n (inr w) = rw (yes_brought h n w, or-true (eqb k n))
 yes_brought (tick (negsuc k) ∷ h) n (inl w) = absurd (let z : ◌≡◌ {A = ℕ} 0 1 = cc in omega arith)
 yes_brought (tick (negsuc k) ∷ h) n (inr w) = yes_brought h n w
 yes_brought (heartbeat z b ∷ h) n (inl w) = absurd w

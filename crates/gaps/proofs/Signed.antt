@@ -8,12 +8,12 @@ use lib.IntN.{ℤ, pos, negsuc, nat_abs}
 use lib.Signed.{lt_z, non_neg}
 use mir.Syntax.{w64}
 use mir.Val.{Fits, SFits}
-use borrow.Author.Tests.{le_ltb}
+use borrow.Author.Tests.{le-ltb}
 use Rattle.gaps.specs.Limits.{most_number}
 use Rattle.gaps.specs.Channel.{natural}
 
 pub natural-none : (z : ℤ) → lt_z z (pos 0) ≡ true → 0 ≡ natural z
-natural-none (pos n) e = absurd (false≢true (sym (le_ltb n 0 zero-le) ∙ e))
+natural-none (pos n) e = absurd (false≢true (sym (le-ltb n 0 zero-le) ∙ e))
 natural-none (negsuc n) e = refl
 
 pub natural-some : (z : ℤ) → lt_z z (pos 0) ≡ false → nat_abs z ≡ natural z

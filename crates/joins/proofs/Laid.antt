@@ -6,7 +6,7 @@ use mathlib.Core.Path.{◌≡◌, refl, ap, sym, ◌∙◌}
 use mathlib.Core.List.{List, [], ◌∷◌, map}
 use lib.ListN.{length, drop, set, replicate, length-replicate, length-map}
 use lib.Seq.{sets, sets-eq, length-sets}
-use borrow.Author.Tests.{lt_ltb}
+use borrow.Author.Tests.{lt-ltb}
 use Rattle.gaps.specs.declared.Run.{Run}
 use Rattle.gaps.specs.Built.{firsts, lasts, padded}
 use mathlib.Core.Bool.{true}
@@ -30,7 +30,7 @@ laid_places : (k : ℕ) (f l : List ℕ) (rs : List Run) → k + length rs ≤ 3
 unfolding laid_all laid_one
 laid_places k f l [] h = let e : k + 0 ≡ k = omega arith in rw e
 laid_places k f l (r ∷ rs) h =
-    let t = lt_ltb k 32 (omega arith) in
+    let t = lt-ltb k 32 (omega arith) in
     let e : suc k + length rs ≡ k + suc (length rs) = omega arith in
     rw (t, add-one k) (laid_places (suc k) (set f k r.first) (set l k r.last) rs (omega arith) ∙ rw e)
 

@@ -8,7 +8,7 @@ use mathlib.Core.List.{List}
 use mathlib.Core.Bool.{Bool, true, false, true≢false, false≢true, ◌&&◌, ◌||◌}
 use lib.Dec.{ltb, eqb}
 use lib.ListN.{length, get_or}
-use borrow.Author.Tests.{ltb-true, ltb-false, lt_ltb, le_ltb, eqb-true, eq-eqb, ne_eqb}
+use borrow.Author.Tests.{ltb-true, ltb-false, lt-ltb, le-ltb, eqb-true, eq-eqb, ne_eqb}
 use Rattle.gaps.specs.declared.Run.{Run}
 use Rattle.gaps.proofs.Numbers.{and_split, or_split}
 use Rattle.seats.specs.Arrays.{Arrays}
@@ -78,10 +78,10 @@ module _ (runs : ℕ → List Run) (i to : ℕ) where
   over-more h = let e : to - i ≡ suc (to - (i + 1)) = omega arith in rw (e, add-one)
 
   pub over-here : i < to → 32 < length (runs i) → overfull runs i (to - i) ≡ true
-  over-here h p = rw (over-more h, lt_ltb 32 (length (runs i)) p)
+  over-here h p = rw (over-more h, lt-ltb 32 (length (runs i)) p)
 
   pub over_pass : i < to → length (runs i) ≤ 32 → overfull runs i (to - i) ≡ overfull runs (i + 1) (to - (i + 1))
-  over_pass h p = rw (over-more h, le_ltb 32 (length (runs i)) p)
+  over_pass h p = rw (over-more h, le-ltb 32 (length (runs i)) p)
 
   pub over-end : to ≤ i → overfull runs i (to - i) ≡ false
   unfolding overfull

@@ -9,7 +9,7 @@ use mathlib.Core.Bool.{Bool, true, false, cond}
 use lib.Dec.{leb, eqb}
 use lib.ListN.{length, drop, get_or, set, drop_of_length-le, length-append, get_or-append}
 use lib.Seq.{get_or_at, drop-cons}
-use borrow.Author.Tests.{le-leb, lt-leb, lt_ltb, le_ltb, eqb-true, eqb-false, ne_eqb}
+use borrow.Author.Tests.{le-leb, lt-leb, lt-ltb, le-ltb, eqb-true, eqb-false, ne_eqb}
 use Rattle.gaps.specs.declared.Run.{Run}
 use Rattle.gaps.specs.Gaps.{run, larger, grow, fill}
 use Rattle.gaps.proofs.Grow.{grow-apart, grow_touch}
@@ -89,11 +89,11 @@ module _ (k : ℕ) (f l : List ℕ) (r s : Run) (a e : ℕ) (p : a ≡ larger r.
 
   pub put_some : a ≤ e → k < 32 → laid (k + 1) (set f k a) (set l k e) ≡ laid_all (laid k f l) (shared r s)
   unfolding laid_one
-  put_some h m = let t = lt_ltb k 32 m in let w : laid (k + 1) (set f k a) (set l k e) ≡ laid_one (laid k f l) (run a e) = rw t in w ∙ one h
+  put_some h m = let t = lt-ltb k 32 m in let w : laid (k + 1) (set f k a) (set l k e) ≡ laid_one (laid k f l) (run a e) = rw t in w ∙ one h
 
   pub put_full : a ≤ e → 32 ≤ k → laid (k + 1) f l ≡ laid_all (laid k f l) (shared r s)
   unfolding laid_one
-  put_full h m = let t = le_ltb k 32 m in let w : laid (k + 1) f l ≡ laid_one (laid k f l) (run a e) = rw t in w ∙ one h
+  put_full h m = let t = le-ltb k 32 m in let w : laid (k + 1) f l ≡ laid_one (laid k f l) (run a e) = rw t in w ∙ one h
 
 -- the same where none has a place
 pub put-more : (k : ℕ) (r s : Run) (a e : ℕ) → a ≡ larger r.first s.first → e ≡ smaller r.last s.last → a ≤ e →

@@ -2,9 +2,9 @@
 -- Assumes nothing.
 use Prim.Native.Nat.{ℕ, suc, ◌-◌, ◌/◌, ◌%◌, ◌<◌, ◌≤◌, ◌^◌}
 use mathlib.Core.Path.{◌≡◌, refl}
-use mathlib.Core.Bool.{Bool, true, false, ◌&&◌, ◌||◌, and_true, and-false, or-false}
+use mathlib.Core.Bool.{Bool, true, false, ◌&&◌, ◌||◌, and-true, and-false, or-false}
 use native.Mathlib.Omega.{arith}
-use borrow.Author.Tests.{le-leb, lt-leb, le_ltb, ltb-true, ltb-false, leb-true, leb-false}
+use borrow.Author.Tests.{le-leb, lt-leb, le-ltb, ltb-true, ltb-false, leb-true, leb-false}
 use lib.Dec.{leb, ltb, leb-zero}
 use lib.IntN.{pos, negsuc}
 use lib.Signed.{le_z}
@@ -17,7 +17,7 @@ module _ (v : ℕ) where
   low_by : (low : ℕ) (b : Bool) → ltb v (2 ^ 63) ≡ b → leb low v && leb v 9223372036854775807 ≡ le_z (pos low) (to_z w64 v)
   low_by low true e =
       let g : v < 2 ^ 63 = ltb-true _ _ e in
-      rw (e, le-leb v 9223372036854775807 (omega arith), and_true)
+      rw (e, le-leb v 9223372036854775807 (omega arith), and-true)
   low_by low false e =
       let g : 2 ^ 63 ≤ v = ltb-false _ _ e in
       rw (e, lt-leb v 9223372036854775807 (omega arith), and-false)
@@ -53,7 +53,7 @@ module _ (v : ℕ) where
       rw (e, lt-leb (2 ^ 64 - suc n) v (omega arith), or-false)
   around_by n h f false e =
       let g : 2 ^ 63 ≤ v = ltb-false _ _ e in
-      rw (e, lt-leb v (suc n) (omega arith), and_true) (far n (omega arith) f (leb (2 ^ 64 - suc n) v) refl)
+      rw (e, lt-leb v (suc n) (omega arith), and-true) (far n (omega arith) f (leb (2 ^ 64 - suc n) v) refl)
 
   -- as far below 0 as above
   pub around_0 : (n : ℕ) → suc n < 2 ^ 63 → v < 2 ^ 64 → leb v (suc n) || leb (2 ^ 64 - suc n) v ≡ le_z (negsuc n) (to_z w64 v) && le_z (to_z w64 v) (pos (suc n))
@@ -91,7 +91,7 @@ unfolding timely
 time_by v true e = rw e (by_digits v)
 time_by v false e =
     let g : 2 ^ 63 ≤ v = ltb-false _ _ e in
-    rw (e, le_ltb v 100000000000000000 (omega arith)) (simp and-false)
+    rw (e, le-ltb v 100000000000000000 (omega arith)) (simp and-false)
 
 pub timed : (v : ℕ) → by_clock v ≡ timely (to_z w64 v)
 timed v = time_by v (ltb v (2 ^ 63)) refl

@@ -4,7 +4,7 @@ use Prim.Native.Nat.{ℕ, ◌+◌, ◌-◌, ◌≤◌, ◌<◌}
 use mathlib.Core.Path.{◌≡◌, refl, ap, ◌∙◌}
 use mathlib.Core.List.{List, []}
 use native.Mathlib.Omega.{arith}
-use borrow.Author.Tests.{lt_ltb, le_ltb}
+use borrow.Author.Tests.{lt-ltb, le-ltb}
 use lib.IntN.{ℤ}
 use lib.ListN.{length}
 use Rattle.wire.specs.Answer.{accepted, refused}
@@ -23,12 +23,12 @@ module _ (m : Message) (g : Group) (s : List ℕ) (i : ℕ) (is : behind m ≡ g
   pub group-found : i < be_at s (groups_start m - 4) 4 → {at : ℕ} → group_offset g s (groups_start m) i ≡ at → {vs : List ℤ} → vs ≡ values g.fields s at → {t : List ℕ} → t ≡ texts g.fields s at → {b : List ℕ} {n : ℕ} → b ≡ filled t → n ≡ length t → with_texts_lem (accepted (found vs)) b n ≡ group_as m s i
   unfolding group_as
   group-found h p v t b n =
-      rw (good, is, lt_ltb _ _ h, p)
+      rw (good, is, lt-ltb _ _ h, p)
       (λ i. record { answer = accepted (found (v i)); texts = (b ∙ ap filled t) i; used = (n ∙ ap length t) i })
 
   pub group-none : be_at s (groups_start m - 4) 4 ≤ i → with_texts (accepted no_such_entry) [] ≡ group_as m s i
   unfolding group_as
-  group-none h = rw (good, is, le_ltb _ _ h)
+  group-none h = rw (good, is, le-ltb _ _ h)
 
   pub group-there : i < be_at s (groups_start m - 4) 4 → group_offset g s (groups_start m) i + size g.fields ≤ length s
   group-there h =

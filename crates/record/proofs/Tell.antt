@@ -2,7 +2,7 @@
 -- Assumes nothing.
 use Prim.Native.Nat.{ℕ, ◌+◌, ◌<◌, ◌^◌}
 use mathlib.Core.Path.{◌≡◌, ap, sym, ◌∙◌}
-use mathlib.Core.Bool.{true, and_true}
+use mathlib.Core.Bool.{true, and-true}
 use mathlib.Core.List.{List, [], ◌∷◌, ◌++◌}
 use lib.Dec.{leb-zero}
 use lib.IntN.{ℤ}
@@ -58,7 +58,7 @@ alive s = rw (leb-zero (length s))
 -- the common part and one field more that is free
 pub common_and : (k : Kind) → ((v : ℕ) → ranged k v ≡ true) → (s : List ℕ) → ranges common_part s 0 ≡ ranges (common_part ++ (k ∷ [])) s 0
 unfolding ranges
-common_and k h s = simp (h, and_true)
+common_and k h s = simp (h, and-true)
 
 -- ---- a frame's bytes
 

@@ -3,7 +3,7 @@ use Prim.Native.Nat.{ℕ, ◌+◌, ◌-◌, ◌^◌, ◌≤◌, ◌<◌}
 use native.Mathlib.Omega.{arith}
 use mathlib.Core.Path.{◌≡◌, refl, ◌∙◌, sym}
 use mathlib.Core.List.{List}
-use mathlib.Core.Bool.{Bool, true, false, true≢false, ◌&&◌, and-false, and_true}
+use mathlib.Core.Bool.{Bool, true, false, true≢false, ◌&&◌, and-false, and-true}
 use lib.Dec.{leb}
 use lib.Bits.{bit_or, or_add_and, or_lt, and_le_l, and_le_r}
 use borrow.Author.Tests.{le-leb, lt-leb, leb-true, leb-false}
@@ -49,7 +49,7 @@ module _ (from h : ℕ) where
   unfolding sound_row
   row_rest n f l b p q =
       let m = most_both q in
-      rw (le-leb n 32 p, le-leb h most_number m.1, le-leb from most_number m.0, and_true (leb 1 from))
+      rw (le-leb n 32 p, le-leb h most_number m.1, le-leb from most_number m.0, and-true (leb 1 from))
 
   -- without a run, the places alone
   pub row-none : (n : ℕ) (f l : List ℕ) (b : ℕ) → n ≡ 0 → (canon from h (span f l b n) && all_zero (span f l (b + n) (32 - n))) ≡ all_zero (span f l b ((b + 32) - b))

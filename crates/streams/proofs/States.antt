@@ -6,7 +6,7 @@ use mathlib.Core.Bool.{Bool, true, false, cond, ◌&&◌, ◌||◌}
 use mathlib.Core.Logic.{◌⊎◌, inl, inr, ⊎_elim}
 use mathlib.Core.List.{List, [], ◌++◌}
 use native.Mathlib.Omega.{arith}
-use borrow.Author.Tests.{le-leb, lt_ltb, lt-leb, eq-eqb, ne_eqb, ltb-true, leb-true, leb-false, eqb-true, eqb-false}
+use borrow.Author.Tests.{le-leb, lt-ltb, lt-leb, eq-eqb, ne_eqb, ltb-true, leb-true, leb-false, eqb-true, eqb-false}
 use lib.Dec.{ltb, leb, eqb}
 use lib.ListN.{length, take}
 use lib.Seq.{take_all, take-length, take-paste}
@@ -111,8 +111,8 @@ module _ (h limit : ℕ) (buffer : List ℕ) where
   -- what the test says, and back
 
   pub led_as : {mark held : ℕ} → Led h limit buffer mark held → led h limit (state mark held) buffer ≡ true
-  led_as (goes {held} k) = sym (led_young (state going held) k.room k.within refl) ∙ lt_ltb 0 _ k.lacks
-  led_as (told {held} k) = sym (led_young (state over held) k.room k.within refl) ∙ lt_ltb 0 _ k.lacks
+  led_as (goes {held} k) = sym (led_young (state going held) k.room k.within refl) ∙ lt-ltb 0 _ k.lacks
+  led_as (told {held} k) = sym (led_young (state over held) k.room k.within refl) ∙ lt-ltb 0 _ k.lacks
   led_as (stop2 b) = sym (led_old (state too_long 0) b (omega arith) refl)
   led_as (stop3 b) = sym (led_old (state wrong_sum 0) b (omega arith) refl)
 

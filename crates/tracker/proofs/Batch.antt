@@ -4,7 +4,7 @@ use Prim.Native.Nat.{◌+◌, ◌-◌, ◌≤◌, ◌<◌}
 use mathlib.Core.Path.{◌≡◌, refl}
 use mathlib.Core.Bool.{Bool, true, false}
 use native.Mathlib.Omega.{arith}
-use borrow.Author.Tests.{ltb-true, ltb-false, lt_ltb, le_ltb}
+use borrow.Author.Tests.{ltb-true, ltb-false, lt-ltb, le-ltb}
 use lib.Dec.{ltb}
 use Rattle.gaps.specs.declared.Run.{Run}
 use Rattle.gaps.specs.Gaps.{run}
@@ -13,11 +13,11 @@ use Rattle.tracker.specs.Request.{batch, asked}
 module _ (r : Run) where
   pub asked_all : r.last < r.first + batch → asked r ≡ r
   unfolding asked
-  asked_all h = rw (lt_ltb r.last (r.first + batch) h)
+  asked_all h = rw (lt-ltb r.last (r.first + batch) h)
 
   pub asked-batch : r.first + batch ≤ r.last → asked r ≡ run r.first (r.first + batch - 1)
   unfolding asked
-  asked-batch h = rw (le_ltb r.last (r.first + batch) h)
+  asked-batch h = rw (le-ltb r.last (r.first + batch) h)
 
 -- from the first number of the run on, not behind its last one, at most a batch of them
 pub record Within (r s : Run) : Type 0 where

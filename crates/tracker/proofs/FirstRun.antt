@@ -6,7 +6,7 @@ use mathlib.Core.List.{List, [], ◌∷◌}
 use mathlib.Core.Bool.{Bool, true, false}
 use lib.Dec.{leb, ltb}
 use lib.ListN.{get_or}
-use borrow.Author.Tests.{leb-true, ltb-true, ltb-false, lt_ltb, le_ltb}
+use borrow.Author.Tests.{leb-true, ltb-true, ltb-false, lt-ltb, le-ltb}
 use Rattle.wire.specs.Answer.{accepted, refused, guard}
 use Rattle.wire.specs.Refusal.{no_such_channel, malformed}
 use Rattle.gaps.specs.declared.Run.{Run}
@@ -35,11 +35,11 @@ module _ (t : Tracker) (k : ℕ) where
 
   first_7 : well_formed t ≡ true → t.count ≤ place t k → first_run t k ≡ refused no_such_channel []
   unfolding first_run guard
-  first_7 p h = rw (p, le_ltb (place t k) t.count h)
+  first_7 p h = rw (p, le-ltb (place t k) t.count h)
 
   first-at : well_formed t ≡ true → place t k < t.count → first_run t k ≡ accepted (foremost (channel_at t (place t k)).runs)
   unfolding first_run guard
-  first-at p h = rw (p, lt_ltb (place t k) t.count h)
+  first-at p h = rw (p, lt-ltb (place t k) t.count h)
 
 -- by the seat
 

@@ -4,10 +4,10 @@ use native.Mathlib.Omega.{arith}
 use mathlib.Core.Path.{◌≡◌, refl}
 use mathlib.Core.Logic.{⊎_elim}
 use mathlib.Core.List.{List, ◌∷◌}
-use mathlib.Core.Bool.{Bool, true, false, cond, ◌&&◌, and-false, or_true}
+use mathlib.Core.Bool.{Bool, true, false, cond, ◌&&◌, and-false, or-true}
 use lib.Dec.{leb}
 use lib.ListN.{get_or}
-use borrow.Author.Tests.{le-leb, lt-leb, lt_ltb, leb-true, leb-false}
+use borrow.Author.Tests.{le-leb, lt-leb, lt-ltb, leb-true, leb-false}
 use Rattle.gaps.specs.declared.Run.{Run}
 use Rattle.gaps.specs.Gaps.{run, has, canon}
 use Rattle.gaps.proofs.Numbers.{lt_or_le}
@@ -35,7 +35,7 @@ held_at f l b (suc count) zero n m p q =
     rw (le-leb (get_or f b 0) n (rw e at p), le-leb n (get_or l b 0) (rw e at q))
 held_at f l b (suc count) (suc j) n m p q =
     let e : b + suc j ≡ suc b + j = omega arith in
-    rw (held_at f l (suc b) count j n (omega arith) (rw e at p) (rw e at q), or_true (leb (get_or f b 0) n && leb n (get_or l b 0)))
+    rw (held_at f l (suc b) count j n (omega arith) (rw e at p) (rw e at q), or-true (leb (get_or f b 0) n && leb n (get_or l b 0)))
 
 -- ---- what the search found
 
@@ -59,7 +59,7 @@ module _ (f l : List ℕ) (b count n : ℕ) where
 
     here-none : n < get_or f b 0 → Finds f l b (suc count) n (left_at b (run (get_or f b 0) (get_or l b 0)) n)
     unfolding left_at
-    here-none p = rw (lt_ltb n (get_or f b 0) p) (finds_no (below p))
+    here-none p = rw (lt-ltb n (get_or f b 0) p) (finds_no (below p))
 
     here-run : get_or f b 0 ≤ n → Finds f l b (suc count) n (left_at b (run (get_or f b 0) (get_or l b 0)) n)
     here-run p =

@@ -10,7 +10,7 @@ use lib.IntN.{ℤ, pos}
 use lib.Signed.{lt_z}
 use lib.ListN.{length, take, drop, get_or, set, length-append, length-set}
 use lib.Seq.{set_split, set-get_or, length-take-le}
-use borrow.Author.Tests.{lt_ltb, le_ltb, lt-leb, le-leb, ltb-true, ltb-false, eqb-true, eqb-false}
+use borrow.Author.Tests.{lt-ltb, le-ltb, lt-leb, le-leb, ltb-true, ltb-false, eqb-true, eqb-false}
 use Rattle.wire.specs.Answer.{Answer, accepted, refused, guard}
 use Rattle.gaps.specs.declared.Run.{Run}
 use Rattle.gaps.specs.Gaps.{run, larger, has, cut, cut_all, grow, fill}
@@ -50,11 +50,11 @@ use Rattle.tracker.proofs.Shift.{parts_length, put-shut, put-cleft}
 module _ (t : Tracker) (i : ℕ) (a : Answer ArrivalSaid) (h : ℕ) (e : Bool) (l : List Run) where
   pub stored_full : 32 < length l → stored_or_full t i a h e l ≡ record { said = refused table_full []; next = t }
   unfolding stored_or_full
-  stored_full p = rw (lt_ltb 32 (length l) p)
+  stored_full p = rw (lt-ltb 32 (length l) p)
 
   pub stored_fits : length l ≤ 32 → stored_or_full t i a h e l ≡ record { said = a; next = put t i (changed (channel_at t i) h e l) }
   unfolding stored_or_full
-  stored_fits p = rw (le_ltb 32 (length l) p)
+  stored_fits p = rw (le-ltb 32 (length l) p)
 
 -- an event that 8 does not refuse, and that is not before start
 settled_stored : (t : Tracker) (i : ℕ) (c : Channel) (e : Event) → too_low e ≡ false → too_early c e ≡ false →
@@ -96,12 +96,12 @@ module _ (t : Tracker) (i : ℕ) (w : RowOf t i) where
   -- below the first number nothing changes
   pub tick_early : (n : ℕ) → 1 ≤ n → n < get_or t.from i 0 → stepped i (tick (pos n)) t ≡ record { said = accepted before_start; next = t }
   tick_early n p s =
-      ap (settled t i) (judged_early (channel_at t i) (tick (pos n)) (le_ltb n 1 p) (lt_ltb n (get_or t.from i 0) s)) ∙ rw (put_same t i w)
+      ap (settled t i) (judged_early (channel_at t i) (tick (pos n)) (le-ltb n 1 p) (lt-ltb n (get_or t.from i 0) s)) ∙ rw (put_same t i w)
 
   module _ (n : ℕ) (p : 1 ≤ n) (s : get_or t.from i 0 ≤ n) where
     by_step : settled t i (judge_event (channel_at t i) (tick (pos n))) ≡
         stored_or_full t i (accepted (taken (channel_at t i) (tick (pos n))).said) (taken (channel_at t i) (tick (pos n))).next.highest (taken (channel_at t i) (tick (pos n))).next.ended (taken (channel_at t i) (tick (pos n))).next.runs
-    by_step = settled_stored t i (channel_at t i) (tick (pos n)) (le_ltb n 1 p) (le_ltb n (get_or t.from i 0) s)
+    by_step = settled_stored t i (channel_at t i) (tick (pos n)) (le-ltb n 1 p) (le-ltb n (get_or t.from i 0) s)
 
     ahead : get_or t.highest i 0 < n → stepped i (tick (pos n)) t ≡
         stored_or_full t i (accepted new) n (channel_at t i).ended (fill (channel_at t i).runs (channel_at t i).highest (n - 1))
@@ -143,7 +143,7 @@ module _ (t : Tracker) (i : ℕ) (w : RowOf t i) where
     heard-at : stepped i (heartbeat (pos m) end) t ≡
         stored_or_full t i (accepted heard) (larger (channel_at t i).highest m) ((channel_at t i).ended || end) (fill (channel_at t i).runs (channel_at t i).highest m)
     unfolding announced
-    heard-at = settled_stored t i (channel_at t i) (heartbeat (pos m) end) (le_ltb m 0 zero-le) refl
+    heard-at = settled_stored t i (channel_at t i) (heartbeat (pos m) end) (le-ltb m 0 zero-le) refl
 
     pub heard-ahead : get_or t.highest i 0 < m → stepped i (heartbeat (pos m) end) t ≡
         stored_or_full t i (accepted heard) m ((channel_at t i).ended || end) (grow (channel_at t i).runs (channel_at t i).highest m)

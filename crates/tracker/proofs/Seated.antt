@@ -6,7 +6,7 @@ use mathlib.Core.List.{[]}
 use mathlib.Core.Bool.{true, false, not}
 use lib.Dec.{leb, eqb}
 use lib.ListN.{get_or}
-use borrow.Author.Tests.{lt_ltb, le_ltb}
+use borrow.Author.Tests.{lt-ltb, le-ltb}
 use Rattle.wire.specs.Answer.{refused, guard}
 use Rattle.wire.specs.Refusal.{no_such_channel, malformed}
 use Rattle.gaps.specs.Channel.{Event, judge_event}
@@ -60,11 +60,11 @@ module _ (t : Tracker) (k : ℕ) (e : Event) where
 
   pub arrived_7 : well_formed t ≡ true → t.count ≤ place t k → arrive t (on k e) ≡ record { said = refused no_such_channel []; next = t }
   unfolding arrive guard
-  arrived_7 p q = rw (p, le_ltb (place t k) t.count q)
+  arrived_7 p q = rw (p, le-ltb (place t k) t.count q)
 
   pub arrived_at : well_formed t ≡ true → place t k < t.count → arrive t (on k e) ≡ settled t (place t k) (judge_event (channel_at t (place t k)) e)
   unfolding arrive guard
-  arrived_at p q = rw (p, lt_ltb (place t k) t.count q)
+  arrived_at p q = rw (p, lt-ltb (place t k) t.count q)
 
 -- ---- a seat
 

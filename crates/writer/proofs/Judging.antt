@@ -5,7 +5,7 @@ use mathlib.Core.Path.{◌≡◌, refl, sym}
 use mathlib.Core.Bool.{Bool, true, false, not}
 use mathlib.Core.List.{List, []}
 use native.Mathlib.Omega.{arith}
-use borrow.Author.Tests.{lt_ltb, le_ltb, ltb-false}
+use borrow.Author.Tests.{lt-ltb, le-ltb, ltb-false}
 use lib.Dec.{ltb}
 use lib.IntN.{ℤ}
 use Rattle.wire.specs.Answer.{Answer, accepted, refused, guard, and_then}
@@ -26,15 +26,15 @@ use Rattle.writer.specs.Write.{frame_length, room_for_frame, write_known, write,
 module _ (l room : ℕ) where
   pub fit_long : body_limit < l → refused too_long [] ≡ room_for_frame l room
   unfolding guard
-  fit_long h = rw (lt_ltb body_limit l h)
+  fit_long h = rw (lt-ltb body_limit l h)
 
   pub fit_short : l ≤ body_limit → room < frame_length l → refused output_short [] ≡ room_for_frame l room
   unfolding guard
-  fit_short h k = rw (le_ltb body_limit l h, lt_ltb room (frame_length l) k)
+  fit_short h k = rw (le-ltb body_limit l h, lt-ltb room (frame_length l) k)
 
   pub fit-whole : l ≤ body_limit → frame_length l ≤ room → accepted (frame_length l) ≡ room_for_frame l room
   unfolding guard
-  fit-whole h k = rw (le_ltb body_limit l h, le_ltb room (frame_length l) k)
+  fit-whole h k = rw (le-ltb body_limit l h, le-ltb room (frame_length l) k)
 
 -- ---- "5 for the type, then 4, 5, 2, 6"
 

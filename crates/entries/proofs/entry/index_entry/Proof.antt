@@ -7,7 +7,7 @@ use Rattle.entries.proofs.entry.index_entry.Tie as tie
 returns : tie.Need-returns
 unfolding entry_at values
 returns c =
-    let says = rw (kept c.before.i64-at.type-inv c.before.i64-at.ensures, c.before.before.be2.ensures) at c.said-in-index.ensures in
+    let says = rw (kept c.before.i64-at.type_inv c.before.i64-at.ensures, c.before.before.be2.ensures) at c.said-in-index.ensures in
     λ i. record { characters = c.before.before.be2.ensures i; says = says i }
 
 pub index-entry-spec : {M : Type 1} → statement M

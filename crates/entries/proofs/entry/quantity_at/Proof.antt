@@ -29,7 +29,7 @@ add-i64-at-2 c = let b = below c in omega (arith, (of-snapshot c.before.before).
 
 returns : tie.Need-returns
 returns c =
-    rw (kept c.i64-at.type-inv c.i64-at.ensures, c.before.before.before.enum_told.given.1)
+    rw (kept c.i64-at.type_inv c.i64-at.ensures, c.before.before.before.enum_told.given.1)
     (sym (quantity-found (of-snapshot c.before.before.before) (below c.before)))
 
 returns-2 : tie.Need-returns-2

@@ -8,7 +8,7 @@ returns : tie.Need-returns
 unfolding entry_at values
 returns c =
     let says =
-    rw (kept c.before.before.before.before.before.i64-at.type-inv c.before.before.before.before.before.i64-at.ensures, kept c.before.before.before.before.i64-at2.type-inv c.before.before.before.before.i64-at2.ensures, kept c.before.before.i64-at3.type-inv c.before.before.i64-at3.ensures, c.before.before.before.be22.ensures, c.before.be4.ensures, c.before.before.before.before.before.before.be2.ensures) at c.said.ensures
+    rw (kept c.before.before.before.before.before.i64-at.type_inv c.before.before.before.before.before.i64-at.ensures, kept c.before.before.before.before.i64-at2.type_inv c.before.before.before.before.i64-at2.ensures, kept c.before.before.i64-at3.type_inv c.before.before.i64-at3.ensures, c.before.before.before.be22.ensures, c.before.be4.ensures, c.before.before.before.before.before.before.be2.ensures) at c.said.ensures
     in
     λ i. record { characters = c.before.before.before.before.before.before.be2.ensures i; says = says i }
 

@@ -1,4 +1,4 @@
-use mathlib.Core.Bool.{and_true}
+use mathlib.Core.Bool.{and-true}
 use native.Mathlib.Omega.{arith}
 use lib.Dec.{lit≤}
 use Rattle.wire.proofs.Be.{be_at-part}
@@ -22,19 +22,19 @@ f-end c = let h = rw c.enum-told4.given.1 at c.before.before.before.requires in 
 
 returns : tie.Need-returns
 unfolding ranges
-returns c = rw c.enum_told.given.1 (simp (free-entry-type, free-level, free-group-count, free_stock_number, free_switch_type, free-text, order_count_as, and_true) (cc))
+returns c = rw c.enum_told.given.1 (simp (free-entry-type, free-level, free-group-count, free_stock_number, free_switch_type, free-text, order_count_as, and-true) (cc))
 
 returns-2 : tie.Need-returns-2
 unfolding ranges
 returns-2 c =
     let h = be_at-part c.before.before.before.before.before.before.args.e.now 0 4 2 2 (lit≤ tt) in
-    rw c.before.before.before.enum-told2.given.1 (simp (free-entry-type, free-level, free-group-count, free_stock_number, free_switch_type, free-text, order_count_as, and_true) (cc))
+    rw c.before.before.before.enum-told2.given.1 (simp (free-entry-type, free-level, free-group-count, free_stock_number, free_switch_type, free-text, order_count_as, and-true) (cc))
 
 returns-3 : tie.Need-returns-3
 unfolding ranges
 returns-3 c =
     let h = be_at-part c.before.before.before.before.before.before.args.e.now 0 10 2 8 (lit≤ tt) in
-    rw c.before.before.before.enum-told3.given.1 (simp (free-entry-type, free-level, free-group-count, free_stock_number, free_switch_type, free-text, order_count_as, and_true) (cc))
+    rw c.before.before.before.enum-told3.given.1 (simp (free-entry-type, free-level, free-group-count, free_stock_number, free_switch_type, free-text, order_count_as, and-true) (cc))
 
 returns-4 : tie.Need-returns-4
 unfolding ranges
@@ -43,7 +43,7 @@ returns-4 c =
     let h = be_at-part e 0 32 2 8 (lit≤ tt) in
     let i = be_at-part e 0 32 10 8 (lit≤ tt) in
     let j = be_at-part e 0 32 20 8 (lit≤ tt) in
-    rw c.before.before.before.before.before.before.before.enum-told4.given.1 (simp (free-entry-type, free-level, free-group-count, free_stock_number, free_switch_type, free-text, order_count_as, and_true) (cc))
+    rw c.before.before.before.before.before.before.before.enum-told4.given.1 (simp (free-entry-type, free-level, free-group-count, free_stock_number, free_switch_type, free-text, order_count_as, and-true) (cc))
 
 pub fields-in-spec : {M : Type 1} → statement M
 fields-in-spec =

@@ -11,7 +11,7 @@ unfolding values
 returns c =
     told of_index c.before.before.before.before.before.before.before.args.e.now c.before.before.before.before.before.before.before.args.price.now c.before.before.before.before.before.be2.ensures
     (says-index _ _ (sym c.before.before.before.before.is-index-price.ensures ∙ c.before.before.before.if1.true))
-    c.priced.ensures.0 (c.priced.ensures.1 ∙ kept c.before.before.i64-at.type-inv c.before.before.i64-at.ensures)
+    c.priced.ensures.0 (c.priced.ensures.1 ∙ kept c.before.before.i64-at.type_inv c.before.before.i64-at.ensures)
 
 returns-2 : tie.Need-returns-2
 returns-2 c =

@@ -29,7 +29,7 @@ held c = c.before.before.args.price.now
 
 own : (c : tie.After-i64-at) → to_z w64 (of_z w64 c.i64-at.result) ≡ price_in (numbers of_snapshot (bytes c.before.before.before))
 unfolding values
-own c = kept c.i64-at.type-inv c.i64-at.ensures
+own c = kept c.i64-at.type_inv c.i64-at.ensures
 
 told_at : (c : tie.After-be2) {x : Says} {r : Entry} {y : ℤ} → says_in of_snapshot (type c) (numbers of_snapshot (bytes c)) ≡ x → r ≡ saying (type c) x → y ≡ price_left (price_of x) (held c) → (r ≡ entry_from_c (entry_at of_snapshot (bytes c) 0)) × (y ≡ price_left (price_of (entry_at of_snapshot (bytes c) 0).says) (held c))
 told_at c = told of_snapshot (bytes c) (held c) c.be2.ensures
@@ -67,13 +67,13 @@ returns-5 : tie.Need-returns-5
 unfolding values
 returns-5 c =
     told_at c.before.before.before.before.before.before.before.before.before.before (says-xg _ _ (no-level c.before.before.before.before.before.before.before.before) (no-price c.before.before.before.before.before) (ne_eqb _ _ c.before.before.before.before.if3.false) (ne_eqb _ _ c.before.before.before.if4.false) (eq-eqb _ _ c.before.before.if5.true))
-    (rw (kept c.before.i64-at2.type-inv c.before.i64-at2.ensures) at c.bare-entry.ensures) refl
+    (rw (kept c.before.i64-at2.type_inv c.before.i64-at2.ensures) at c.bare-entry.ensures) refl
 
 returns-6 : tie.Need-returns-6
 unfolding values
 returns-6 c =
     told_at c.before.before.before.before.before.before.before.before.before.before.before.before.before (says_both _ _ (no-level c.before.before.before.before.before.before.before.before.before.before.before) (no-price c.before.before.before.before.before.before.before.before) (ne_eqb _ _ c.before.before.before.before.before.before.before.if3.false) (ne_eqb _ _ c.before.before.before.before.before.before.if4.false) (ne_eqb _ _ c.before.before.before.before.before.if5.false) (sym c.before.before.before.before.is-both.ensures ∙ c.before.before.before.if6.true))
-    (rw (kept c.before.before.i64-at3.type-inv c.before.before.i64-at3.ensures) at c.priced2.ensures.0) (c.priced2.ensures.1 ∙ own c.before.before.before.before.before.before.before.before.before.before)
+    (rw (kept c.before.before.i64-at3.type_inv c.before.before.i64-at3.ensures) at c.priced2.ensures.0) (c.priced2.ensures.1 ∙ own c.before.before.before.before.before.before.before.before.before.before)
 
 returns-7 : tie.Need-returns-7
 returns-7 c =

@@ -19,7 +19,7 @@ returns-2 c =
     (λ i.
     known channel_heartbeat
     (pos (c.before.before.be2.ensures i)
-    ∷ kept c.before.i64-at.type-inv c.before.i64-at.ensures i
+    ∷ kept c.before.i64-at.type_inv c.before.i64-at.ensures i
     ∷ pos (c.be22.ensures i)
     ∷ []))
     ∙ ap (numbers_as channel_heartbeat) (sym (had_all channel_heartbeat c.before.before.before.before.before.args.body.now c.before.before.before.if1.false))

@@ -2,7 +2,7 @@ use borrow.Author.Rules.{rules}
 use Prim.Native.Nat.{ℕ}
 use lib.Dec.{lit≤}
 use lib.ListN.{take, drop}
-use mathlib.Core.Bool.{Bool, and_true}
+use mathlib.Core.Bool.{Bool, and-true}
 use mathlib.Core.List.{List}
 use mathlib.Core.Path.{◌≡◌, ◌∙◌}
 use native.Mathlib.Omega.{arith}
@@ -25,7 +25,7 @@ returns : tie.Need-returns
 unfolding ranges
 returns c =
     by_part c.before.before.before.before.before.before.before.before.before.before.before.before.args.body.now
-    (simp (free-channel, free-text, trade_count_as, previous_close_as, and_true) (cc))
+    (simp (free-channel, free-text, trade_count_as, previous_close_as, and-true) (cc))
 
 pub common-in-spec : {M : Type 1} → statement M
 common-in-spec =

@@ -18,12 +18,12 @@ returns : tie.Need-returns
 unfolding values size
 returns c =
     (λ i.
-    kept c.before.before.before.before.before.i64-at.type-inv c.before.before.before.before.before.i64-at.ensures i
+    kept c.before.before.before.before.before.i64-at.type_inv c.before.before.before.before.before.i64-at.ensures i
     ∷ pos (c.before.before.before.before.be2.ensures i)
-    ∷ kept c.before.before.before.i64-at2.type-inv c.before.before.before.i64-at2.ensures i
-    ∷ kept c.before.before.i64-at3.type-inv c.before.before.i64-at3.ensures i
-    ∷ kept c.before.i64-at4.type-inv c.before.i64-at4.ensures i
-    ∷ kept c.i64-at5.type-inv c.i64-at5.ensures i
+    ∷ kept c.before.before.before.i64-at2.type_inv c.before.before.before.i64-at2.ensures i
+    ∷ kept c.before.before.i64-at3.type_inv c.before.before.i64-at3.ensures i
+    ∷ kept c.before.i64-at4.type_inv c.before.i64-at4.ensures i
+    ∷ kept c.i64-at5.type_inv c.i64-at5.ensures i
     ∷ [])
     ∙ values-part common_part c.before.before.before.before.before.before.before.before.args.body.now 0 65 0 (lit≤ tt)
 

@@ -19,11 +19,11 @@ returns-2 c =
     (λ i.
     known order
     (pos (c.before.before.before.before.before.before.be2.ensures i)
-    ∷ kept c.before.before.before.before.before.i64-at.type-inv c.before.before.before.before.before.i64-at.ensures i
-    ∷ kept c.before.before.before.before.i64-at2.type-inv c.before.before.before.before.i64-at2.ensures i
-    ∷ kept c.before.before.before.i64-at3.type-inv c.before.before.before.i64-at3.ensures i
+    ∷ kept c.before.before.before.before.before.i64-at.type_inv c.before.before.before.before.before.i64-at.ensures i
+    ∷ kept c.before.before.before.before.i64-at2.type_inv c.before.before.before.before.i64-at2.ensures i
+    ∷ kept c.before.before.before.i64-at3.type_inv c.before.before.before.i64-at3.ensures i
     ∷ pos (c.before.before.be1.ensures i)
-    ∷ kept c.before.i64-at4.type-inv c.before.i64-at4.ensures i
+    ∷ kept c.before.i64-at4.type_inv c.before.i64-at4.ensures i
     ∷ pos (c.be12.ensures i)
     ∷ []))
     ∙ ap (numbers_as order) (sym (had_all order c.before.before.before.before.before.before.before.before.before.args.body.now c.before.before.before.before.before.before.before.if1.false))

@@ -20,8 +20,8 @@ returns-2 c =
     known resend
     (pos (c.before.before.before.before.be1.ensures i)
     ∷ pos (c.before.before.before.be2.ensures i)
-    ∷ kept c.before.before.i64-at.type-inv c.before.before.i64-at.ensures i
-    ∷ kept c.before.i64-at2.type-inv c.before.i64-at2.ensures i
+    ∷ kept c.before.before.i64-at.type_inv c.before.before.i64-at.ensures i
+    ∷ kept c.before.i64-at2.type_inv c.before.i64-at2.ensures i
     ∷ pos (c.be12.ensures i)
     ∷ []))
     ∙ ap (numbers_as resend) (sym (had_all resend c.before.before.before.before.before.before.before.args.body.now c.before.before.before.before.before.if1.false))

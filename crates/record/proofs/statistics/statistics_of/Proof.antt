@@ -18,7 +18,7 @@ unfolding values size
 returns-2 c =
     (λ i.
     known statistics
-    (kept c.before.before.i64-at.type-inv c.before.before.i64-at.ensures i
+    (kept c.before.before.i64-at.type_inv c.before.before.i64-at.ensures i
     ∷ pos (c.before.be2.ensures i)
     ∷ pos (c.be4.ensures i)
     ∷ []))

@@ -19,13 +19,13 @@ returns-2 c =
     (λ i.
     known trade
     (pos (c.before.before.before.before.before.before.before.be2.ensures i)
-    ∷ kept c.before.before.before.before.before.before.i64-at.type-inv c.before.before.before.before.before.before.i64-at.ensures i
-    ∷ kept c.before.before.before.before.before.i64-at2.type-inv c.before.before.before.before.before.i64-at2.ensures i
-    ∷ kept c.before.before.before.before.i64-at3.type-inv c.before.before.before.before.i64-at3.ensures i
-    ∷ kept c.before.before.before.i64-at4.type-inv c.before.before.before.i64-at4.ensures i
-    ∷ kept c.before.before.i64-at5.type-inv c.before.before.i64-at5.ensures i
+    ∷ kept c.before.before.before.before.before.before.i64-at.type_inv c.before.before.before.before.before.before.i64-at.ensures i
+    ∷ kept c.before.before.before.before.before.i64-at2.type_inv c.before.before.before.before.before.i64-at2.ensures i
+    ∷ kept c.before.before.before.before.i64-at3.type_inv c.before.before.before.before.i64-at3.ensures i
+    ∷ kept c.before.before.before.i64-at4.type_inv c.before.before.before.i64-at4.ensures i
+    ∷ kept c.before.before.i64-at5.type_inv c.before.before.i64-at5.ensures i
     ∷ pos (c.before.be1.ensures i)
-    ∷ kept c.i64-at6.type-inv c.i64-at6.ensures i
+    ∷ kept c.i64-at6.type_inv c.i64-at6.ensures i
     ∷ []))
     ∙ ap (numbers_as trade) (sym (had_all trade c.before.before.before.before.before.before.before.before.before.before.args.body.now c.before.before.before.before.before.before.before.before.if1.false))
 
