@@ -6,7 +6,7 @@ use tracker::{Requested, Tracker};
 const CHANNEL: u16 = 2011;
 
 // A request for a channel, to an output of room bytes.
-#[derive(Drop)]
+#[derive(Clone, Copy)]
 struct Case {
     tracker: Tracker,
     channel: u16,

@@ -7,7 +7,7 @@ use writer::Written;
 const MARK: u8 = 0xaa;
 
 // A record to write, with so many bytes of texts and of groups, to an output of room bytes.
-#[derive(Drop)]
+#[derive(Clone, Copy)]
 struct Case {
     record: Record,
     texts: usize,

@@ -2,7 +2,7 @@
 ghost use Rattle.std.specs.Prelude.{◌≤◌, length};
 
 // What a call answered: a word of the table below, and the number behind "written" and "refused".
-#[derive(Drop)]
+#[derive(Clone, Copy)]
 pub struct Said {
     pub word: u64,
     pub number: u64,

@@ -19,7 +19,7 @@ const HELD: usize = 1048576;
 const GATHERED: usize = 65536;
 
 // Where a listing is: offset and frames so far, bytes gathered, and whether a write failed.
-#[derive(Drop)]
+#[derive(Clone, Copy)]
 struct Progress {
     offset: u64,
     frames: u64,

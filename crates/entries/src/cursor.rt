@@ -11,14 +11,14 @@ use record::Record;
 
 // The offset of the next entry, and how many are left.
 #[repr(C)]
-#[derive(Drop)]
+#[derive(Clone, Copy)]
 pub struct Cursor {
     pub offset: usize,
     pub left: u32,
 }
 
 // The entry at a cursor, with the cursor behind it.
-#[derive(Drop)]
+#[derive(Clone, Copy)]
 pub enum Step {
     Found(Entry, Cursor),
     NoSuchEntry,

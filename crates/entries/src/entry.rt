@@ -18,14 +18,14 @@ pub(crate) const COUNT: usize = layout::snapshot::COUNT;
 pub(crate) const START: usize = layout::snapshot::SIZE;
 
 // Whose entries: a snapshot's, or an index's.
-#[derive(Drop)]
+#[derive(Clone, Copy)]
 pub enum Entries {
     OfSnapshot,
     OfIndex,
 }
 
 // What an entry says: exactly one of seven things.
-#[derive(Drop)]
+#[derive(Clone, Copy)]
 pub enum Says {
     Level {
         entry_price: i64,
@@ -55,14 +55,14 @@ pub enum Says {
 }
 
 // An entry: its two type characters, the first the higher byte, and what it says.
-#[derive(Drop)]
+#[derive(Clone, Copy)]
 pub struct Entry {
     pub characters: u16,
     pub says: Says,
 }
 
 // Entry i of a body.
-#[derive(Drop)]
+#[derive(Clone, Copy)]
 pub enum AskedEntry {
     Found(Entry),
     NoSuchEntry,
@@ -70,7 +70,7 @@ pub enum AskedEntry {
 }
 
 // Shown quantity j of entry i.
-#[derive(Drop)]
+#[derive(Clone, Copy)]
 pub enum AskedQuantity {
     Found(i64),
     NoSuchEntry,

@@ -15,7 +15,7 @@ mod laying;
 mod walk;
 
 // What a join is answered.
-#[derive(Drop)]
+#[derive(Clone, Copy)]
 pub enum JoinVerdict {
     Joined,
     TableFull,

@@ -9,7 +9,7 @@ use gaps::Run;
 use seats::Seat;
 
 // A row's runs with the numbers behind its highest: how many runs, the place of the one with those numbers, and its first number.
-#[derive(Drop)]
+#[derive(Clone, Copy)]
 struct Reach {
     count: usize,
     at: usize,

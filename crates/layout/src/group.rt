@@ -12,7 +12,7 @@ use crate::{entry, index_entry, stream, switch};
 use wire::answers;
 
 // The groups of a statistics body, of a security status, of an index, and of a snapshot.
-#[derive(Drop)]
+#[derive(Clone, Copy)]
 pub enum Groups {
     Streams,
     Switches,
@@ -21,7 +21,7 @@ pub enum Groups {
 }
 
 // Why a body is refused: it lacks bytes of its layout, or a field is out of range.
-#[derive(Drop)]
+#[derive(Clone, Copy)]
 pub enum Refusal {
     NotItsLayout,
     OutOfRange,
@@ -39,7 +39,7 @@ impl Refusal {
     }
 }
 
-#[derive(Drop)]
+#[derive(Clone, Copy)]
 pub enum Verdict {
     Accepted,
     Refused(Refusal),
@@ -130,7 +130,7 @@ fn quantities_in(n: usize, s: &[u8], at: usize) -> bool
 }
 
 // Whether the bytes have k groups from an offset on, and where these end; that offset itself where they lack some.
-#[derive(Drop)]
+#[derive(Clone, Copy)]
 struct Span {
     fits: bool,
     end: usize,

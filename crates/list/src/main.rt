@@ -13,7 +13,7 @@ const GATHERED: usize = 65536;
 
 // Where the listing is: bytes of the window that are listed, offset and frames so far, bytes gathered, the number of the
 // refusal at that offset, 0 where there is none, and whether a write failed.
-#[derive(Drop)]
+#[derive(Clone, Copy)]
 struct Progress {
     from: usize,
     offset: u64,

@@ -12,7 +12,7 @@ use tracker::{Tracker, Verdict, heartbeat_in, tick_in};
 use wire::answers::{BEFORE_START, DUPLICATE, LATE, PLAIN};
 
 #[repr(C)]
-#[derive(Drop)]
+#[derive(Clone, Copy)]
 pub struct StartAnswer {
     pub answer: u32,
     pub tracker: Tracker,

@@ -11,7 +11,7 @@ use prices::{EntryAnswer, StepAnswer};
 use wire::answers::{NO_SUCH_ENTRY, PLAIN};
 
 #[repr(C)]
-#[derive(Drop)]
+#[derive(Clone, Copy)]
 pub struct QuantityAnswer {
     pub answer: u32,
     pub quantity: i64,

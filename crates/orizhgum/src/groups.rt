@@ -9,7 +9,7 @@ use wire::answers::{NO_SUCH_ENTRY, PLAIN};
 
 // A group: the stock number and the texts of a stream, or a switch type and its yes/no; the others are zero.
 #[repr(C)]
-#[derive(Drop)]
+#[derive(Clone, Copy)]
 pub struct Grouped {
     pub answer: u32,
     pub stock_number: u32,

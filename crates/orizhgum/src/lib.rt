@@ -20,7 +20,7 @@ pub mod written;
 // The frame that some bytes begin with: its type, the body's length and the length of the frame; zeros where it is refused, but for
 // how many bytes are missing.
 #[repr(C)]
-#[derive(Drop)]
+#[derive(Clone, Copy)]
 pub struct FrameAnswer {
     pub answer: u32,
     pub kind: u32,

@@ -30,7 +30,7 @@ pub extern "C" fn orizhgum_judge(kind: u32, body: &[u8]) -> u32
 const NO_TEXTS: [u8; TEXT_ROOM] = [0; TEXT_ROOM];
 
 #[repr(C)]
-#[derive(Drop)]
+#[derive(Clone, Copy)]
 pub struct OrderAnswer {
     pub answer: u32,
     pub numbers: Order,
@@ -60,7 +60,7 @@ pub extern "C" fn orizhgum_order(body: &[u8]) -> OrderAnswer
 }
 
 #[repr(C)]
-#[derive(Drop)]
+#[derive(Clone, Copy)]
 pub struct TradeAnswer {
     pub answer: u32,
     pub numbers: Trade,
@@ -90,7 +90,7 @@ pub extern "C" fn orizhgum_trade(body: &[u8]) -> TradeAnswer
 }
 
 #[repr(C)]
-#[derive(Drop)]
+#[derive(Clone, Copy)]
 pub struct ChannelHeartbeatAnswer {
     pub answer: u32,
     pub numbers: ChannelHeartbeat,
@@ -120,7 +120,7 @@ pub extern "C" fn orizhgum_channel_heartbeat(body: &[u8]) -> ChannelHeartbeatAns
 }
 
 #[repr(C)]
-#[derive(Drop)]
+#[derive(Clone, Copy)]
 pub struct ResendAnswer {
     pub answer: u32,
     pub numbers: Resend,
@@ -150,7 +150,7 @@ pub extern "C" fn orizhgum_resend(body: &[u8]) -> ResendAnswer
 }
 
 #[repr(C)]
-#[derive(Drop)]
+#[derive(Clone, Copy)]
 pub struct SnapshotAnswer {
     pub answer: u32,
     pub numbers: Snapshot,
@@ -180,7 +180,7 @@ pub extern "C" fn orizhgum_snapshot(body: &[u8]) -> SnapshotAnswer
 }
 
 #[repr(C)]
-#[derive(Drop)]
+#[derive(Clone, Copy)]
 pub struct IndexAnswer {
     pub answer: u32,
     pub numbers: Index,
@@ -210,7 +210,7 @@ pub extern "C" fn orizhgum_index(body: &[u8]) -> IndexAnswer
 }
 
 #[repr(C)]
-#[derive(Drop)]
+#[derive(Clone, Copy)]
 pub struct VolumeIndexAnswer {
     pub answer: u32,
     pub numbers: VolumeIndex,
@@ -240,7 +240,7 @@ pub extern "C" fn orizhgum_volume_index(body: &[u8]) -> VolumeIndexAnswer
 }
 
 #[repr(C)]
-#[derive(Drop)]
+#[derive(Clone, Copy)]
 pub struct StatisticsAnswer {
     pub answer: u32,
     pub numbers: Statistics,
@@ -270,7 +270,7 @@ pub extern "C" fn orizhgum_statistics(body: &[u8]) -> StatisticsAnswer
 }
 
 #[repr(C)]
-#[derive(Drop)]
+#[derive(Clone, Copy)]
 pub struct SecurityStatusAnswer {
     pub answer: u32,
     pub numbers: SecurityStatus,

@@ -16,7 +16,7 @@ const IN_BUFFER: u32 = 2;
 // What a call finds, with the frame's type, the body's length and the length of the frame, zeros where there is none; how many bytes
 // are missing, how many of the cut it took, and the next state.
 #[repr(C)]
-#[derive(Drop)]
+#[derive(Clone, Copy)]
 pub struct StreamAnswer {
     pub answer: u32,
     pub stands: u32,

@@ -15,7 +15,7 @@ use writer::Written;
 
 // How many bytes were written; 0 where it is refused, and the output is as it stood.
 #[repr(C)]
-#[derive(Drop)]
+#[derive(Clone, Copy)]
 pub struct WriteAnswer {
     pub answer: u32,
     pub written: usize,

@@ -25,7 +25,7 @@ pub(crate) const UNKNOWN: u32 = 7;
 
 // An entry without its price: its two type characters, the first the higher byte, which of the seven things it says, and the numbers that go with that; the others are zero.
 #[repr(C)]
-#[derive(Drop)]
+#[derive(Clone, Copy)]
 pub struct Entry {
     pub says: u32,
     pub characters: u16,
@@ -36,14 +36,14 @@ pub struct Entry {
 }
 
 #[repr(C)]
-#[derive(Drop)]
+#[derive(Clone, Copy)]
 pub struct EntryAnswer {
     pub answer: u32,
     pub entry: Entry,
 }
 
 #[repr(C)]
-#[derive(Drop)]
+#[derive(Clone, Copy)]
 pub struct StepAnswer {
     pub answer: u32,
     pub entry: Entry,

@@ -14,7 +14,7 @@ use crate::{Answer, Reading, Record, refused};
 use layout::{Refusal, Verdict, channel_heartbeat, natural_in_range, yes_no_in_range};
 
 #[repr(C)]
-#[derive(Drop)]
+#[derive(Clone, Copy)]
 pub struct ChannelHeartbeat {
     pub channel: u16,
     pub last_number: i64,

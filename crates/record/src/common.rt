@@ -8,7 +8,7 @@ use layout::{
 };
 
 #[repr(C)]
-#[derive(Drop)]
+#[derive(Clone, Copy)]
 pub struct Common {
     pub time: i64,
     pub channel: u16,

@@ -9,7 +9,7 @@ use frame::{Frame, Framed};
 use layout::Refusal;
 
 // A record; or a refusal of the frame, 1 to 3, or of its body, 4 or 5.
-#[derive(Drop)]
+#[derive(Clone, Copy)]
 pub enum FrameAnswer {
     Read(Record),
     Frame(frame::Refusal),
@@ -17,7 +17,7 @@ pub enum FrameAnswer {
 }
 
 // What a frame reads as, with the record's texts; a refusal has none.
-#[derive(Drop)]
+#[derive(Clone, Copy)]
 pub struct FrameReading {
     pub answer: FrameAnswer,
     pub texts: Texts,

@@ -16,7 +16,7 @@ use crate::{Record, judge};
 use layout::{Groups, Refusal, Verdict, index, security_status, snapshot, statistics, width};
 
 // Group i of a 390090 or a 390013.
-#[derive(Drop)]
+#[derive(Clone, Copy)]
 pub enum GroupAnswer {
     Stream(Stream),
     Switch(Switch),
@@ -25,7 +25,7 @@ pub enum GroupAnswer {
 }
 
 // A group with its texts; a refusal and "no such entry" have none.
-#[derive(Drop)]
+#[derive(Clone, Copy)]
 pub struct GroupReading {
     pub answer: GroupAnswer,
     pub texts: Texts,

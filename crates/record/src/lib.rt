@@ -47,7 +47,7 @@ use texts::no_texts;
 pub use trade::{Trade, judge_trade, trade_of, trade_texts};
 pub use volume_index::{VolumeIndex, judge_volume_index, volume_index_of, volume_index_texts};
 
-#[derive(Drop)]
+#[derive(Clone, Copy)]
 pub enum Record {
     Heartbeat,
     ChannelHeartbeat(ChannelHeartbeat),
@@ -85,14 +85,14 @@ impl Record {
     pub const TRADE: u32 = 300191;
 }
 
-#[derive(Drop)]
+#[derive(Clone, Copy)]
 pub enum Answer {
     Read(Record),
     Refused(Refusal),
 }
 
 // What a body reads as, with its texts; a refusal has none.
-#[derive(Drop)]
+#[derive(Clone, Copy)]
 pub struct Reading {
     pub answer: Answer,
     pub texts: Texts,

@@ -17,7 +17,7 @@ use layout::{
 };
 
 #[repr(C)]
-#[derive(Drop)]
+#[derive(Clone, Copy)]
 pub struct Order {
     pub channel: u16,
     pub number: i64,

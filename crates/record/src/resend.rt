@@ -16,7 +16,7 @@ use layout::{
 };
 
 #[repr(C)]
-#[derive(Drop)]
+#[derive(Clone, Copy)]
 pub struct Resend {
     pub resend_type: u8,
     pub channel: u16,

@@ -16,7 +16,7 @@ use crate::{Answer, Reading, Record, refused};
 use layout::{Groups, Refusal, Verdict, security_status, switch, time_in_range};
 
 #[repr(C)]
-#[derive(Drop)]
+#[derive(Clone, Copy)]
 pub struct SecurityStatus {
     pub time: i64,
     pub channel: u16,
@@ -24,7 +24,7 @@ pub struct SecurityStatus {
 }
 
 // A group of it.
-#[derive(Drop)]
+#[derive(Clone, Copy)]
 pub struct Switch {
     pub switch_type: u16,
     pub yes_no: u16,

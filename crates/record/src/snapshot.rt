@@ -15,7 +15,7 @@ use crate::{Answer, Reading, Record, refused};
 use layout::{Groups, Refusal, Verdict, common, snapshot};
 
 #[repr(C)]
-#[derive(Drop)]
+#[derive(Clone, Copy)]
 pub struct Snapshot {
     pub common: Common,
     pub count: u32,

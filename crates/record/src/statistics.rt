@@ -16,7 +16,7 @@ use crate::{Answer, Reading, Record, refused};
 use layout::{Groups, Refusal, Verdict, statistics, stream, time_in_range, width};
 
 #[repr(C)]
-#[derive(Drop)]
+#[derive(Clone, Copy)]
 pub struct Statistics {
     pub time: i64,
     pub channel: u16,
@@ -24,7 +24,7 @@ pub struct Statistics {
 }
 
 // A group of it; its texts are stream and phase.
-#[derive(Drop)]
+#[derive(Clone, Copy)]
 pub struct Stream {
     pub stock_number: u32,
 }

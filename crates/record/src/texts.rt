@@ -6,7 +6,7 @@ ghost use Rattle.record.specs.Asked.{filled, text_room};
 use layout::TEXT_ROOM;
 
 // A record's texts, one behind the other in the layout's order; unused bytes are zero.
-#[derive(Drop)]
+#[derive(Clone, Copy)]
 pub struct Texts {
     pub bytes: [u8; TEXT_ROOM],
     pub length: usize,

@@ -17,7 +17,7 @@ use layout::{
 };
 
 #[repr(C)]
-#[derive(Drop)]
+#[derive(Clone, Copy)]
 pub struct Trade {
     pub channel: u16,
     pub number: i64,

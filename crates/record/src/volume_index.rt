@@ -15,7 +15,7 @@ use crate::{Answer, Reading, Record, refused};
 use layout::{Refusal, Verdict, common, volume_index};
 
 #[repr(C)]
-#[derive(Drop)]
+#[derive(Clone, Copy)]
 pub struct VolumeIndex {
     pub common: Common,
     pub stock_number: u32,

@@ -14,7 +14,7 @@ use gaps::Run;
 use seats::Seat;
 
 // Whether a run holds a number, and the place of that run: at an end, where it is left as from first to last; alone in it; or between others.
-#[derive(Drop)]
+#[derive(Clone, Copy)]
 pub enum Held {
     No,
     AtEnd(usize, u64, u64),
@@ -23,7 +23,7 @@ pub enum Held {
 }
 
 // Where new missing numbers go: the place in the row and the first number of the run there, or full.
-#[derive(Drop)]
+#[derive(Clone, Copy)]
 pub struct Gap {
     pub full: bool,
     pub at: usize,

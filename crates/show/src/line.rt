@@ -160,7 +160,7 @@ fn count(r: Record) -> u32 {
 }
 
 // The line of a frame, and how many groups or entries stand below it: none where the record is refused.
-#[derive(Drop)]
+#[derive(Clone, Copy)]
 pub struct Head {
     pub line: Line,
     pub count: u32,

@@ -33,7 +33,7 @@ const MARGIN: usize = 1024;
 
 // Where the program is: bytes of the window that are shown, offset and frames so far, bytes gathered, the number of the refusal
 // 1 to 3 at that offset, 0 where there is none, and whether a write failed.
-#[derive(Drop)]
+#[derive(Clone, Copy)]
 struct Progress {
     from: usize,
     offset: u64,

@@ -22,7 +22,7 @@ const REJECT_TEXT: usize = width::NEWS_ID;
 const GROUP_PHASE: usize = width::STREAM;
 
 // The texts by name.
-#[derive(Drop)]
+#[derive(Clone, Copy)]
 pub enum Text {
     Stream,
     Security,

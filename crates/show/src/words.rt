@@ -5,7 +5,7 @@ use crate::field;
 use layout::TEXT_ROOM;
 
 // A line by its number in the table, its fields, and the texts that they name. Line 0 is empty.
-#[derive(Drop)]
+#[derive(Clone, Copy)]
 pub struct Line {
     pub number: u64,
     pub fields: [i64; Line::FIELDS],

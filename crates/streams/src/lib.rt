@@ -17,14 +17,14 @@ mod state;
 // How many bytes of an unfinished frame the lent buffer begins with, and how the stream stands: it goes on, it has ended, or it
 // stopped at a refusal, whose number the mark is.
 #[repr(C)]
-#[derive(Drop)]
+#[derive(Clone, Copy)]
 pub struct Stream {
     pub held: usize,
     pub mark: u32,
 }
 
 // What a call finds.
-#[derive(Drop)]
+#[derive(Clone, Copy)]
 pub enum Says {
     // A frame, with which the cut begins.
     InCut(Frame),
@@ -39,7 +39,7 @@ pub enum Says {
 }
 
 // What a call finds, how many bytes of the cut it took, and the next state.
-#[derive(Drop)]
+#[derive(Clone, Copy)]
 pub struct Pushed {
     pub says: Says,
     pub took: usize,

@@ -28,7 +28,7 @@ mod starts;
 
 // Each channel's number, first number, highest number, ended mark and count of runs, and the runs of all of them; unused places are zero.
 #[repr(C)]
-#[derive(Drop)]
+#[derive(Clone, Copy)]
 pub struct Tracker {
     pub count: usize,
     pub numbers: [u16; Tracker::CHANNELS],
@@ -41,7 +41,7 @@ pub struct Tracker {
 }
 
 // What the set-up answers.
-#[derive(Drop)]
+#[derive(Clone, Copy)]
 pub enum Start {
     SetUp,
     Malformed,
@@ -60,14 +60,14 @@ impl Start {
 }
 
 // The set-up's answer, and the tracker.
-#[derive(Drop)]
+#[derive(Clone, Copy)]
 pub struct Started {
     pub verdict: Start,
     pub tracker: Tracker,
 }
 
 // What an arrival is answered.
-#[derive(Drop)]
+#[derive(Clone, Copy)]
 pub enum Verdict {
     New,
     Late,
@@ -100,21 +100,21 @@ impl Verdict {
 }
 
 // An arrival's answer, and the next tracker.
-#[derive(Drop)]
+#[derive(Clone, Copy)]
 pub struct Reply {
     pub verdict: Verdict,
     pub next: Tracker,
 }
 
 // A join's answer, and the next tracker.
-#[derive(Drop)]
+#[derive(Clone, Copy)]
 pub struct Joined {
     pub verdict: JoinVerdict,
     pub next: Tracker,
 }
 
 // What a request is answered: how many bytes were written, nothing missing, or the refusal.
-#[derive(Drop)]
+#[derive(Clone, Copy)]
 pub enum Requested {
     Written(usize),
     NothingMissing,
@@ -142,7 +142,7 @@ impl Requested {
 }
 
 // The first run of a channel, or why there is none.
-#[derive(Drop)]
+#[derive(Clone, Copy)]
 enum Wanted {
     First(Run),
     NothingMissing,
@@ -151,7 +151,7 @@ enum Wanted {
 }
 
 // The refusal of an arrival by 10, 7 or 8, or the place of its channel.
-#[derive(Drop)]
+#[derive(Clone, Copy)]
 enum Judged {
     Refused(Verdict),
     At(usize),

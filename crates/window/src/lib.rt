@@ -7,7 +7,7 @@ ghost use Rattle.window.specs.Window.{slid, moved, still_held};
 use libc::{STDIN_FILENO, STDOUT_FILENO};
 
 // How many bytes are held behind a read or a write, and whether it failed.
-#[derive(Drop)]
+#[derive(Clone, Copy)]
 pub struct Held {
     pub count: usize,
     pub failed: bool,

@@ -37,7 +37,7 @@ pub use volume_index::write_volume_index;
 use wire::answers;
 
 // Why nothing is written: texts or groups that aren't exactly the stated fields; a field out of range, or a type that is not listed; a body above the limit; an output too short.
-#[derive(Drop)]
+#[derive(Clone, Copy)]
 pub enum Refusal {
     NotItsLayout,
     OutOfRange,
@@ -60,7 +60,7 @@ impl Refusal {
 }
 
 // How many bytes were written, or the refusal.
-#[derive(Drop)]
+#[derive(Clone, Copy)]
 pub enum Written {
     Whole(usize),
     Refused(Refusal),
