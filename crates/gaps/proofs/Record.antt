@@ -35,6 +35,7 @@ ahead-canon n h (r ∷ l) p c = go (eqb r.first (n + 1)) refl
 ahead-out : (n h : ℕ) (l : List Run) (i : ℕ) → Canon (n + 1) h l → In (ahead n l) i → (i ≡ n) ⊎ In l i
 unfolding ahead
 ahead-out n h [] i c (inl w) = inl (omega arith)
+ahead-out n h [] i c (inr w) = absurd w
 ahead-out n h (r ∷ l) i c w = go (eqb r.first (n + 1)) refl w
   where
     go : (b : Bool) → eqb r.first (n + 1) ≡ b → In (cond b (run n r.last ∷ l) (run n n ∷ r ∷ l)) i → (i ≡ n) ⊎ In (r ∷ l) i
