@@ -1,0 +1,13 @@
+use Prim.Native.Nat.{◌≤◌, ◌-◌}
+use mathlib.Core.Path.{◌≡◌}
+use lib.Dec.{eqb}
+use mathlib.Core.Bool.{◌&&◌}
+use Rattle.seats.specs.Rules.{all_zero}
+use Rattle.seats.specs.Places.{span}
+use Rattle.seats.proofs.rules.cleared.Given as goal
+
+abbrev pub invariant-loop-i : goal.invariant-loop-i
+invariant-loop-i l = (l.begin ≤ l.i) × (l.i ≤ l.to) × (all_zero (span l.first l.last l.begin (l.to - l.begin)) ≡ (eqb l.bits 0 && all_zero (span l.first l.last l.i (l.to - l.i))))
+
+abbrev pub decreases-loop-i : goal.decreases-loop-i
+decreases-loop-i l = l.to - l.i
