@@ -1,16 +1,19 @@
--- Bytes that move to the front, one by one; and what is kept of the gathered bytes.
+-- Bytes that move to the front, one by one; what is kept of the gathered bytes and what is written; and where what is read stands.
 -- Assumes nothing.
 use Prim.Native.Nat.{ℕ, suc, ◌+◌, ◌-◌, ◌≤◌, ◌<◌}
 use mathlib.Core.Path.{◌≡◌, refl, ap, ◌∙◌}
-use mathlib.Core.List.{List, ◌∷◌, ◌++◌}
+use mathlib.Core.List.{List, [], ◌∷◌, ◌++◌}
 use native.Mathlib.Numerals.{add-one}
 use native.Mathlib.Omega.{arith}
 use borrow.Author.Tests.{le-leb, lt-leb, leb-true}
 use mathlib.Core.Bool.{Bool, true, false, cond, ◌&&◌}
 use lib.Dec.{leb}
 use lib.ListN.{length, take, drop, get_or, set, length-append, length-drop}
-use lib.Seq.{length-take-le, take-suc, drop-cons, set_at, get_or-append-add, get_or-drop, append_snoc}
-use Rattle.window.specs.Window.{slid, moved, still_held}
+use lib.Seq.{length-take-le, take-suc, drop-cons, set_at, get_or-append-add, get_or-drop, append_snoc, drop_at}
+use Rattle.std.proofs.Common.{Option, None, Some, Result, Ok, Err, OnErr, sym, append-nil}
+use Rattle.std.proofs.lemmas.List.{drop-take, take-append-le}
+use Rattle.std.specs.Io.KnownBytes.{Appends}
+use Rattle.window.specs.Window.{slid, moved, still_held, written}
 
 -- i bytes from an offset on have moved to the front
 abbrev pub sliding : List ℕ → ℕ → ℕ → List ℕ
@@ -86,3 +89,36 @@ kept_all s gathered room h = rw (le-leb (gathered + room) (length s) h)
 pub kept_none : (s : List ℕ) (gathered room : ℕ) → length s < gathered + room → 0 ≡ still_held s gathered room
 unfolding still_held
 kept_none s gathered room h = rw (lt-leb (gathered + room) (length s) h)
+
+-- none are written where there is room behind them, or where there are not so many
+pub none-to-write : (s : List ℕ) (gathered room : ℕ) → gathered + room ≤ length s → written s gathered room ≡ []
+unfolding written
+none-to-write s gathered room h = rw (le-leb (gathered + room) (length s) h)
+
+pub none-there : (s : List ℕ) (gathered room : ℕ) → length s < gathered → written s gathered room ≡ []
+unfolding written
+none-there s gathered room h =
+    let k : length s < gathered + room = omega arith in
+    rw (lt-leb (gathered + room) (length s) k, lt-leb gathered (length s) h)
+
+pub all-written : (s : List ℕ) (gathered room : ℕ) → gathered ≤ length s → length s < gathered + room → written s gathered room ≡ take gathered s
+unfolding written
+all-written s gathered room h k = rw (lt-leb (gathered + room) (length s) k, le-leb gathered (length s) h)
+
+-- what was read into the part behind a front stands there
+pub read-there :
+    (front part rest : List ℕ) (at n : ℕ) → length front ≡ at → n ≤ length part →
+    drop at (take (at + n) (front ++ (part ++ rest))) ≡ take n part
+read-there front part rest at n long fits =
+    drop-take at n (front ++ (part ++ rest))
+    ∙ ap (take n) (drop_at front (part ++ rest) at long)
+    ∙ take-append-le n part rest fits
+
+-- nothing is appended where nothing is written
+pub appends-none : (known : Option (List ℕ)) → Appends known known []
+appends-none None = tt
+appends-none (Some xs) = sym (append-nil xs)
+
+pub on-error : {T E : Type 0} (r : Result T E) (P : Type 0) → P → OnErr r P
+on-error (Ok x) P h = tt
+on-error (Err e) P h = h

@@ -1,6 +1,6 @@
--- A window that slides over the input. What an input gives and an output takes, no definition says.
+-- A window that slides over the input, and bytes that are gathered. Which bytes a file gives or takes, no definition says.
 -- Assumes nothing.
-use Rattle.std.specs.Prelude.{ℕ, ◌+◌, ◌-◌, Bool, cond, ◌&&◌, List, ◌++◌, leb, length, take, drop}
+use Rattle.std.specs.Prelude.{ℕ, ◌+◌, ◌-◌, Bool, cond, ◌&&◌, List, [], ◌++◌, leb, length, take, drop}
 
 -- there are bytes from an offset up to another
 abbrev pub bytes_there : List ℕ → ℕ → ℕ → Bool
@@ -17,3 +17,8 @@ moved s from to = cond (bytes_there s from to) (to - from) 0
 -- what is still held of the gathered bytes: all where there is room behind them, else none
 unfoldable pub still_held : List ℕ → ℕ → ℕ → ℕ
 still_held s gathered room = cond (leb (gathered + room) (length s)) gathered 0
+
+-- the gathered bytes that are written: none where there is room behind them, or where there are not so many
+unfoldable pub written : List ℕ → ℕ → ℕ → List ℕ
+written s gathered room =
+    cond (leb (gathered + room) (length s)) [] (cond (leb gathered (length s)) (take gathered s) [])
