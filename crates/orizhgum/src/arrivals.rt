@@ -36,8 +36,7 @@ fn verdict_number(verdict: Verdict) -> u32
 }
 
 // A tracker of these channels, with a first number for each, that nothing has reached; or the all-zero tracker where they are refused.
-#[unsafe(no_mangle)]
-pub extern "C" fn orizhgum_set_up<'a>(channels: &'a [u16], from: &'a [i64]) -> StartAnswer
+pub fn orizhgum_set_up<'a>(channels: &'a [u16], from: &'a [i64]) -> StartAnswer
     ensures { result ≡ start_answer (set_up channels.now from.now) }
 {
     let s = Tracker::set_up(channels, from);
@@ -50,8 +49,7 @@ pub extern "C" fn orizhgum_set_up<'a>(channels: &'a [u16], from: &'a [i64]) -> S
 }
 
 // A tick on a channel of the tracker that the arrays hold, which become those of the next one; a refusal leaves them as they stood.
-#[unsafe(no_mangle)]
-pub extern "C" fn orizhgum_tick_in<'a>(
+pub fn orizhgum_tick_in<'a>(
     count: usize,
     numbers: &'a [u16; Tracker::CHANNELS],
     from: &'a [u64; Tracker::CHANNELS],
@@ -71,8 +69,7 @@ pub extern "C" fn orizhgum_tick_in<'a>(
 }
 
 // A channel heartbeat, in the same way; end 0 is no, anything else yes.
-#[unsafe(no_mangle)]
-pub extern "C" fn orizhgum_heard_in<'a>(
+pub fn orizhgum_heard_in<'a>(
     count: usize,
     numbers: &'a [u16; Tracker::CHANNELS],
     from: &'a [u64; Tracker::CHANNELS],

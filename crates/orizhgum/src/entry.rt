@@ -18,16 +18,14 @@ pub struct QuantityAnswer {
 }
 
 // Entry i of a body, from 0.
-#[unsafe(no_mangle)]
-pub extern "C" fn orizhgum_entry(kind: u32, body: &[u8], i: u32) -> EntryAnswer
+pub fn orizhgum_entry(kind: u32, body: &[u8], i: u32) -> EntryAnswer
     ensures { result ≡ entry_answer (entry_of kind body.now i) }
 {
     prices::entry_of(kind, body, i)
 }
 
 // The price of entry i; "no price" leaves the lent number as it stood, and so does every refusal.
-#[unsafe(no_mangle)]
-pub extern "C" fn orizhgum_entry_price(kind: u32, body: &[u8], i: u32, price: &mut i64) -> u32
+pub fn orizhgum_entry_price(kind: u32, body: &[u8], i: u32, price: &mut i64) -> u32
     ensures value { result ≡ pricing (entry_of kind body.now i) }
     ensures price_after { price.new ≡ priced_left (entry_of kind body.now i) price.old }
 {
@@ -35,8 +33,7 @@ pub extern "C" fn orizhgum_entry_price(kind: u32, body: &[u8], i: u32, price: &m
 }
 
 // Shown quantity j of entry i, each from 0.
-#[unsafe(no_mangle)]
-pub extern "C" fn orizhgum_quantity(kind: u32, body: &[u8], i: u32, j: u32) -> QuantityAnswer
+pub fn orizhgum_quantity(kind: u32, body: &[u8], i: u32, j: u32) -> QuantityAnswer
     ensures { result ≡ quantity_answer (quantity_of kind body.now i j) }
 {
     match entries::quantity_of(kind, body, i, j) {
@@ -56,16 +53,14 @@ pub extern "C" fn orizhgum_quantity(kind: u32, body: &[u8], i: u32, j: u32) -> Q
 }
 
 // The cursor before the first entry of a body.
-#[unsafe(no_mangle)]
-pub extern "C" fn orizhgum_cursor(kind: u32, body: &[u8]) -> Cursor
+pub fn orizhgum_cursor(kind: u32, body: &[u8]) -> Cursor
     ensures { means_cursor result ≡ start (named kind) body.now }
 {
     Cursor::start(kind, body)
 }
 
 // The entry at a cursor with its price, and the cursor behind it; where the entry says no price, or there is none, the lent number is as it stood.
-#[unsafe(no_mangle)]
-pub extern "C" fn orizhgum_next(at: Cursor, kind: u32, body: &[u8], price: &mut i64) -> StepAnswer
+pub fn orizhgum_next(at: Cursor, kind: u32, body: &[u8], price: &mut i64) -> StepAnswer
     ensures value { result ≡ step_answer (step (named kind) body.now (means_cursor at)) at }
     ensures price_after { price.new ≡ priced_left (entry_found (step (named kind) body.now (means_cursor at))) price.old }
 {
@@ -73,8 +68,7 @@ pub extern "C" fn orizhgum_next(at: Cursor, kind: u32, body: &[u8], price: &mut 
 }
 
 // The price of the entry at a cursor, as that of entry i.
-#[unsafe(no_mangle)]
-pub extern "C" fn orizhgum_step_price(at: Cursor, kind: u32, body: &[u8], price: &mut i64) -> u32
+pub fn orizhgum_step_price(at: Cursor, kind: u32, body: &[u8], price: &mut i64) -> u32
     ensures value { result ≡ pricing (entry_found (step (named kind) body.now (means_cursor at))) }
     ensures price_after { price.new ≡ priced_left (entry_found (step (named kind) body.now (means_cursor at))) price.old }
 {

@@ -19,8 +19,7 @@ pub struct Grouped {
 }
 
 // Group i of a body, from 0.
-#[unsafe(no_mangle)]
-pub extern "C" fn orizhgum_group(kind: u32, body: &[u8], i: u32) -> Grouped
+pub fn orizhgum_group(kind: u32, body: &[u8], i: u32) -> Grouped
     ensures { result ≡ group_answer (group_of kind body.now i) }
 {
     let r = record::group_of(kind, body, i);

@@ -7,8 +7,7 @@ use seats::Seat;
 use tracker::{JoinVerdict, Tracker, join_in};
 
 // Joins the tracker that the first arrays hold with another, and they become those of the tracker joined; a refusal leaves them as they stood.
-#[unsafe(no_mangle)]
-pub extern "C" fn orizhgum_join_in<'a>(
+pub fn orizhgum_join_in<'a>(
     count: usize,
     numbers: &'a [u16; Tracker::CHANNELS],
     from: &'a [u64; Tracker::CHANNELS],

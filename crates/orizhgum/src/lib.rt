@@ -1,4 +1,4 @@
-// The C interface: exported functions over the crates below. Answer 0 is the plain one, 1 to 99 are the refusals.
+// The C interface: the calls over the crates below, which `orizhgum_c` exports. Answer 0 is the plain one, 1 to 99 are the refusals.
 #![tactic(auto)]
 
 ghost use Rattle.std.specs.Prelude.{◌≡◌};
@@ -29,8 +29,7 @@ pub struct FrameAnswer {
     pub missing: usize,
 }
 
-#[unsafe(no_mangle)]
-pub extern "C" fn orizhgum_frame(bytes: &[u8]) -> FrameAnswer
+pub fn orizhgum_frame(bytes: &[u8]) -> FrameAnswer
     ensures { result ≡ frame_answer (read header_width body_limit bytes.now) }
 {
     match frame::read(bytes) {

@@ -13,8 +13,7 @@ use record::{
 use wire::answers::{PLAIN, UNKNOWN};
 
 // How a body of a type reads, without its fields: plainly, by 4 or 5, or as unknown.
-#[unsafe(no_mangle)]
-pub extern "C" fn orizhgum_judge(kind: u32, body: &[u8]) -> u32
+pub fn orizhgum_judge(kind: u32, body: &[u8]) -> u32
     ensures { result ≡ judged_number (named kind) body.now }
 {
     if !record::listed(kind) {
@@ -37,8 +36,7 @@ pub struct OrderAnswer {
     pub texts: [u8; TEXT_ROOM],
 }
 
-#[unsafe(no_mangle)]
-pub extern "C" fn orizhgum_order(body: &[u8]) -> OrderAnswer
+pub fn orizhgum_order(body: &[u8]) -> OrderAnswer
     ensures { answer_as result.answer (is.Order result.numbers) result.texts ≡ record_answer of.order body.now }
 {
     match record::judge_order(body) {
@@ -67,8 +65,7 @@ pub struct TradeAnswer {
     pub texts: [u8; TEXT_ROOM],
 }
 
-#[unsafe(no_mangle)]
-pub extern "C" fn orizhgum_trade(body: &[u8]) -> TradeAnswer
+pub fn orizhgum_trade(body: &[u8]) -> TradeAnswer
     ensures { answer_as result.answer (is.Trade result.numbers) result.texts ≡ record_answer of.trade body.now }
 {
     match record::judge_trade(body) {
@@ -97,8 +94,7 @@ pub struct ChannelHeartbeatAnswer {
     pub texts: [u8; TEXT_ROOM],
 }
 
-#[unsafe(no_mangle)]
-pub extern "C" fn orizhgum_channel_heartbeat(body: &[u8]) -> ChannelHeartbeatAnswer
+pub fn orizhgum_channel_heartbeat(body: &[u8]) -> ChannelHeartbeatAnswer
     ensures { answer_as result.answer (is.ChannelHeartbeat result.numbers) result.texts ≡ record_answer of.channel_heartbeat body.now }
 {
     match record::judge_channel_heartbeat(body) {
@@ -127,8 +123,7 @@ pub struct ResendAnswer {
     pub texts: [u8; TEXT_ROOM],
 }
 
-#[unsafe(no_mangle)]
-pub extern "C" fn orizhgum_resend(body: &[u8]) -> ResendAnswer
+pub fn orizhgum_resend(body: &[u8]) -> ResendAnswer
     ensures { answer_as result.answer (is.Resend result.numbers) result.texts ≡ record_answer of.resend body.now }
 {
     match record::judge_resend(body) {
@@ -157,8 +152,7 @@ pub struct SnapshotAnswer {
     pub texts: [u8; TEXT_ROOM],
 }
 
-#[unsafe(no_mangle)]
-pub extern "C" fn orizhgum_snapshot(body: &[u8]) -> SnapshotAnswer
+pub fn orizhgum_snapshot(body: &[u8]) -> SnapshotAnswer
     ensures { answer_as result.answer (is.Snapshot result.numbers) result.texts ≡ record_answer of.snapshot body.now }
 {
     match record::judge_snapshot(body) {
@@ -187,8 +181,7 @@ pub struct IndexAnswer {
     pub texts: [u8; TEXT_ROOM],
 }
 
-#[unsafe(no_mangle)]
-pub extern "C" fn orizhgum_index(body: &[u8]) -> IndexAnswer
+pub fn orizhgum_index(body: &[u8]) -> IndexAnswer
     ensures { answer_as result.answer (is.Index result.numbers) result.texts ≡ record_answer of.index body.now }
 {
     match record::judge_index(body) {
@@ -217,8 +210,7 @@ pub struct VolumeIndexAnswer {
     pub texts: [u8; TEXT_ROOM],
 }
 
-#[unsafe(no_mangle)]
-pub extern "C" fn orizhgum_volume_index(body: &[u8]) -> VolumeIndexAnswer
+pub fn orizhgum_volume_index(body: &[u8]) -> VolumeIndexAnswer
     ensures { answer_as result.answer (is.VolumeIndex result.numbers) result.texts ≡ record_answer of.volume_index body.now }
 {
     match record::judge_volume_index(body) {
@@ -247,8 +239,7 @@ pub struct StatisticsAnswer {
     pub texts: [u8; TEXT_ROOM],
 }
 
-#[unsafe(no_mangle)]
-pub extern "C" fn orizhgum_statistics(body: &[u8]) -> StatisticsAnswer
+pub fn orizhgum_statistics(body: &[u8]) -> StatisticsAnswer
     ensures { answer_as result.answer (is.Statistics result.numbers) result.texts ≡ record_answer of.statistics body.now }
 {
     match record::judge_statistics(body) {
@@ -277,8 +268,7 @@ pub struct SecurityStatusAnswer {
     pub texts: [u8; TEXT_ROOM],
 }
 
-#[unsafe(no_mangle)]
-pub extern "C" fn orizhgum_security_status(body: &[u8]) -> SecurityStatusAnswer
+pub fn orizhgum_security_status(body: &[u8]) -> SecurityStatusAnswer
     ensures { answer_as result.answer (is.SecurityStatus result.numbers) result.texts ≡ record_answer of.security_status body.now }
 {
     match record::judge_security_status(body) {

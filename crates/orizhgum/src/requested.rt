@@ -10,8 +10,7 @@ use seats::Seat;
 use tracker::{Requested, Tracker, request_in};
 use wire::answers::{NOTHING_MISSING, PLAIN};
 
-#[unsafe(no_mangle)]
-pub extern "C" fn orizhgum_request_in<'a>(
+pub fn orizhgum_request_in<'a>(
     count: usize,
     numbers: &'a [u16; Tracker::CHANNELS],
     from: &'a [u64; Tracker::CHANNELS],

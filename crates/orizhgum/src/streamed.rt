@@ -80,20 +80,14 @@ fn told(answer: Pushed) -> StreamAnswer
 }
 
 // A stream of which nothing has come.
-#[unsafe(no_mangle)]
-pub extern "C" fn orizhgum_stream_new() -> Stream
+pub fn orizhgum_stream_new() -> Stream
     ensures { result ≡ new_stream }
 {
     Stream::new()
 }
 
 // A cut of the stream.
-#[unsafe(no_mangle)]
-pub extern "C" fn orizhgum_stream_push(
-    stream: Stream,
-    buffer: &mut [u8],
-    cut: &[u8],
-) -> StreamAnswer
+pub fn orizhgum_stream_push(stream: Stream, buffer: &mut [u8], cut: &[u8]) -> StreamAnswer
     ensures value { result ≡ stream_answer (pushed header_width body_limit stream buffer.old cut.now) }
     ensures buffer_after { buffer.new ≡ buffer_left header_width body_limit stream buffer.old cut.now }
 {
@@ -101,8 +95,7 @@ pub extern "C" fn orizhgum_stream_push(
 }
 
 // The stream has ended.
-#[unsafe(no_mangle)]
-pub extern "C" fn orizhgum_stream_end(stream: Stream, buffer: &[u8]) -> StreamAnswer
+pub fn orizhgum_stream_end(stream: Stream, buffer: &[u8]) -> StreamAnswer
     ensures { result ≡ stream_answer (ended header_width body_limit stream buffer.now) }
 {
     told(stream.end(buffer))

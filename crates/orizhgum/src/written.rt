@@ -36,8 +36,7 @@ fn answer_of(written: Written) -> WriteAnswer
     }
 }
 
-#[unsafe(no_mangle)]
-pub extern "C" fn orizhgum_write_order(
+pub fn orizhgum_write_order(
     numbers: Order,
     texts: &[u8],
     groups: &[u8],
@@ -49,8 +48,7 @@ pub extern "C" fn orizhgum_write_order(
     answer_of(writer::write_order(numbers, texts, groups, out))
 }
 
-#[unsafe(no_mangle)]
-pub extern "C" fn orizhgum_write_trade(
+pub fn orizhgum_write_trade(
     numbers: Trade,
     texts: &[u8],
     groups: &[u8],
@@ -62,8 +60,7 @@ pub extern "C" fn orizhgum_write_trade(
     answer_of(writer::write_trade(numbers, texts, groups, out))
 }
 
-#[unsafe(no_mangle)]
-pub extern "C" fn orizhgum_write_channel_heartbeat(
+pub fn orizhgum_write_channel_heartbeat(
     numbers: ChannelHeartbeat,
     texts: &[u8],
     groups: &[u8],
@@ -75,8 +72,7 @@ pub extern "C" fn orizhgum_write_channel_heartbeat(
     answer_of(writer::write_channel_heartbeat(numbers, texts, groups, out))
 }
 
-#[unsafe(no_mangle)]
-pub extern "C" fn orizhgum_write_resend(
+pub fn orizhgum_write_resend(
     numbers: Resend,
     texts: &[u8],
     groups: &[u8],
@@ -88,8 +84,7 @@ pub extern "C" fn orizhgum_write_resend(
     answer_of(writer::write_resend(numbers, texts, groups, out))
 }
 
-#[unsafe(no_mangle)]
-pub extern "C" fn orizhgum_write_snapshot(
+pub fn orizhgum_write_snapshot(
     numbers: Snapshot,
     texts: &[u8],
     groups: &[u8],
@@ -101,8 +96,7 @@ pub extern "C" fn orizhgum_write_snapshot(
     answer_of(writer::write_snapshot(numbers, texts, groups, out))
 }
 
-#[unsafe(no_mangle)]
-pub extern "C" fn orizhgum_write_index(
+pub fn orizhgum_write_index(
     numbers: Index,
     texts: &[u8],
     groups: &[u8],
@@ -114,8 +108,7 @@ pub extern "C" fn orizhgum_write_index(
     answer_of(writer::write_index(numbers, texts, groups, out))
 }
 
-#[unsafe(no_mangle)]
-pub extern "C" fn orizhgum_write_volume_index(
+pub fn orizhgum_write_volume_index(
     numbers: VolumeIndex,
     texts: &[u8],
     groups: &[u8],
@@ -127,8 +120,7 @@ pub extern "C" fn orizhgum_write_volume_index(
     answer_of(writer::write_volume_index(numbers, texts, groups, out))
 }
 
-#[unsafe(no_mangle)]
-pub extern "C" fn orizhgum_write_statistics(
+pub fn orizhgum_write_statistics(
     numbers: Statistics,
     texts: &[u8],
     groups: &[u8],
@@ -140,8 +132,7 @@ pub extern "C" fn orizhgum_write_statistics(
     answer_of(writer::write_statistics(numbers, texts, groups, out))
 }
 
-#[unsafe(no_mangle)]
-pub extern "C" fn orizhgum_write_security_status(
+pub fn orizhgum_write_security_status(
     numbers: SecurityStatus,
     texts: &[u8],
     groups: &[u8],
@@ -153,12 +144,7 @@ pub extern "C" fn orizhgum_write_security_status(
     answer_of(writer::write_security_status(numbers, texts, groups, out))
 }
 
-#[unsafe(no_mangle)]
-pub extern "C" fn orizhgum_write_heartbeat(
-    texts: &[u8],
-    groups: &[u8],
-    out: &mut [u8],
-) -> WriteAnswer
+pub fn orizhgum_write_heartbeat(texts: &[u8], groups: &[u8], out: &mut [u8]) -> WriteAnswer
     ensures value { result ≡ write_answer (write (means_record is.Heartbeat) texts.now groups.now out.old) }
     ensures out_after { out.new ≡ write_leaves (means_record is.Heartbeat) texts.now groups.now out.old }
 {
