@@ -1,0 +1,49 @@
+// For C: two trackers joined.
+ghost use Rattle.std.specs.Prelude.{◌≡◌};
+ghost use Rattle.seats.specs.Arrays.{at_entry, at_end};
+ghost use Rattle.orizhgum.specs.Joined.{JoinsFromC, join_replied};
+
+use seats::Seat;
+use tracker::Tracker;
+
+#[unsafe(no_mangle)]
+pub extern "C" fn orizhgum_join_in<'a>(
+    count: usize,
+    numbers: &'a [u16; Tracker::CHANNELS],
+    from: &'a [u64; Tracker::CHANNELS],
+    highest: &mut [u64; Tracker::CHANNELS],
+    ended: &mut [u8; Tracker::CHANNELS],
+    counts: &mut [usize; Tracker::CHANNELS],
+    first: &mut [u64; Seat::PLACES],
+    last: &mut [u64; Seat::PLACES],
+    other_count: usize,
+    other_numbers: &'a [u16; Tracker::CHANNELS],
+    other_from: &'a [u64; Tracker::CHANNELS],
+    other_highest: &'a [u64; Tracker::CHANNELS],
+    other_ended: &'a [u8; Tracker::CHANNELS],
+    other_counts: &'a [usize; Tracker::CHANNELS],
+    other_first: &'a [u64; Seat::PLACES],
+    other_last: &'a [u64; Seat::PLACES],
+) -> u32
+    ensures joins_from_c { JoinsFromC (at_entry count numbers from highest ended counts first last) (at_entry other_count other_numbers other_from other_highest other_ended other_counts other_first other_last) (join_replied result (at_end count numbers from highest ended counts first last)) }
+    ensures other_last_value { at_end other_count other_numbers other_from other_highest other_ended other_counts other_first other_last ≡ at_entry other_count other_numbers other_from other_highest other_ended other_counts other_first other_last }
+{
+    orizhgum::joined::orizhgum_join_in(
+        count,
+        numbers,
+        from,
+        highest,
+        ended,
+        counts,
+        first,
+        last,
+        other_count,
+        other_numbers,
+        other_from,
+        other_highest,
+        other_ended,
+        other_counts,
+        other_first,
+        other_last,
+    )
+}
