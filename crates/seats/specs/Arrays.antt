@@ -1,7 +1,7 @@
 -- A tracker's count of channels and its seven arrays, as one value; and what lent arrays hold when a call begins and when it ends.
 -- Assumes nothing.
 use Rattle.std.specs.Prelude.{ℕ, List}
-use Rattle.std.specs.Borrow.{Bor}
+use Rattle.std.specs.Borrow.{Bor, MutBor}
 use denote.Triple.Both.{Both}
 
 -- each channel's number, first number, highest number, ended mark and count of runs, and the runs of all of them
@@ -27,6 +27,13 @@ Lent = Bor (List ℕ)
 abbrev pub Passed : Type 0
 Passed = Both Lent Lent
 
+-- the same, of one that is lent to be written
+abbrev pub LentMut : Type 0
+LentMut = MutBor (List ℕ)
+
+abbrev pub PassedMut : Type 0
+PassedMut = Both LentMut LentMut
+
 -- what lent arrays hold
 abbrev pub in_arrays : ℕ → (numbers from highest ended counts first last : Lent) → Arrays
 in_arrays count numbers from highest ended counts first last =
@@ -37,12 +44,27 @@ abbrev pub at_entry : ℕ → (numbers from highest ended counts first last : Pa
 at_entry count numbers from highest ended counts first last =
     in_arrays count numbers.entry from.entry highest.entry ended.entry counts.entry first.entry last.entry
 
--- when it ends; the channels' numbers and first numbers are lent to be read alone
-abbrev pub at_exit : ℕ → (numbers from highest ended counts first last : Passed) → Arrays
-at_exit count numbers from highest ended counts first last =
-    in_arrays count numbers.entry from.entry highest.exit ended.exit counts.exit first.exit last.exit
-
 -- when it ends, of a call that is held to leave what it only reads
 abbrev pub at_end : ℕ → (numbers from highest ended counts first last : Passed) → Arrays
 at_end count numbers from highest ended counts first last =
     in_arrays count numbers.exit from.exit highest.exit ended.exit counts.exit first.exit last.exit
+
+-- what arrays hold of which all but the channels' numbers and first numbers are lent to be written
+abbrev pub in_arrays_mut : ℕ → (numbers from : Lent) (highest ended counts first last : LentMut) → Arrays
+in_arrays_mut count numbers from highest ended counts first last =
+    arrays count numbers.now from.now highest.now ended.now counts.now first.now last.now
+
+-- when a call begins that writes these
+abbrev pub at_entry_mut : ℕ → (numbers from : Passed) (highest ended counts first last : PassedMut) → Arrays
+at_entry_mut count numbers from highest ended counts first last =
+    in_arrays_mut count numbers.entry from.entry highest.entry ended.entry counts.entry first.entry last.entry
+
+-- when it ends; the channels' numbers and first numbers are lent to be read alone
+abbrev pub at_exit : ℕ → (numbers from : Passed) (highest ended counts first last : PassedMut) → Arrays
+at_exit count numbers from highest ended counts first last =
+    in_arrays_mut count numbers.entry from.entry highest.exit ended.exit counts.exit first.exit last.exit
+
+-- when it ends, of a call that is held to leave what it only reads
+abbrev pub at_end_mut : ℕ → (numbers from : Passed) (highest ended counts first last : PassedMut) → Arrays
+at_end_mut count numbers from highest ended counts first last =
+    in_arrays_mut count numbers.exit from.exit highest.exit ended.exit counts.exit first.exit last.exit
