@@ -1,0 +1,16 @@
+use Rattle.std.proofs.Common.{sym, ◌∙◌}
+use Rattle.layout.specs.Layout.{order, size}
+use Rattle.layout.specs.Group.{also}
+use Rattle.layout.proofs.Walk.{judged_short, judged_long, judged-nothing}
+use Rattle.record.proofs.order.judge_order.Goals as goal
+
+pub returns-then-body-lt-SIZE : goal.returns-then-body-lt-SIZE
+unfolding size
+returns-then-body-lt-SIZE c = sym (judged_short order c.args.body.now c.if-body-lt-SIZE.true)
+
+pub returns : goal.returns
+unfolding size
+returns c =
+    c.also.ensures
+    ∙ (λ i. also (c.in_range.ensures i) (sym (judged-nothing c.args.body.now 51) i))
+    ∙ sym (judged_long order c.args.body.now c.if-body-lt-SIZE.false)

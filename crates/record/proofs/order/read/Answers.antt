@@ -1,0 +1,16 @@
+use Rattle.std.proofs.Common.{ℕ, List, ap, sym, ◌∙◌}
+use Rattle.layout.specs.Layout.{order, fields, texts}
+use Rattle.layout.proofs.Walk.{has_all}
+use Rattle.record.specs.Record.{numbers_as}
+use Rattle.record.proofs.Had.{had_all}
+use Rattle.record.proofs.Tell.{tell, refuse}
+use Rattle.record.proofs.order.read.Goals as goal
+
+pub returns-in-Accepted : goal.returns-in-Accepted
+returns-in-Accepted c =
+    let h = had_all order c.args.body.now (has_all order c.args.body.now (sym c.in-Accepted.ensures)).long in
+    tell order c.args.body.now (sym c.in-Accepted.ensures) (c.order_of.ensures ∙ ap (numbers_as order) h)
+    (ap (λ (l : List ℕ). texts (fields order) l 0) h) c.order_texts.ensures.0 c.order_texts.ensures.1
+
+pub returns-in-Refused : goal.returns-in-Refused
+returns-in-Refused c = c.refused.ensures ∙ refuse order c.args.body.now (sym c.in-Refused.ensures)

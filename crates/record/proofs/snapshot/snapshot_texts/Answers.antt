@@ -1,0 +1,16 @@
+use Rattle.std.proofs.Common.{ℕ, List, length, ap, sym, ◌∙◌}
+use Rattle.layout.specs.Layout.{snapshot, fields, size, texts}
+use Rattle.record.specs.Asked.{filled}
+use Rattle.record.proofs.Gathered.{snapshot-texts}
+use Rattle.record.proofs.Had.{had-none, had_all}
+use Rattle.record.proofs.snapshot.snapshot_texts.Goals as goal
+
+pub returns-then-body-lt-SIZE : goal.returns-then-body-lt-SIZE
+unfolding texts size
+returns-then-body-lt-SIZE c = rw (had-none snapshot c.args.body.now c.if-body-lt-SIZE.true) c.no_texts.ensures
+
+pub returns : goal.returns
+unfolding size
+returns c =
+    let e = snapshot-texts c.args.body.now ∙ ap (λ (l : List ℕ). texts (fields snapshot) l 0) (sym (had_all snapshot c.args.body.now c.if-body-lt-SIZE.false)) in
+    (c.gather.ensures.0 ∙ ap filled e, c.gather.ensures.1 ∙ ap (length {A = ℕ}) e)
