@@ -1,4 +1,4 @@
-pub mod Says
+pub mod Sayings
 pub mod Entries
 pub mod Steps
 pub mod Unique

@@ -1,5 +1,5 @@
 use Rattle.wire.proofs.Signs.{kept}
-use Rattle.entries.proofs.Says.{same_bits, other_bits}
+use Rattle.entries.proofs.Sayings.{same_bits, other_bits}
 use Rattle.entries.proofs.entry.limit.Statement.{statement}
 use Rattle.entries.proofs.entry.limit.Tie as tie
 

@@ -5,7 +5,7 @@ use lib.IntN.{pos}
 use Rattle.wire.proofs.Signs.{kept}
 use Rattle.layout.specs.Kind.{among}
 use Rattle.entries.specs.Entry.{levels, prices}
-use Rattle.entries.proofs.Says.{zero_fits, same_bits, other_bits, says-without, says-level, says-price, says-xe, says-xf, says-xg, says_both, says-unknown}
+use Rattle.entries.proofs.Sayings.{zero_fits, same_bits, other_bits, says-without, says-level, says-price, says-xe, says-xf, says-xg, says_both, says-unknown}
 use Rattle.entries.proofs.entry.said.Statement.{statement}
 use Rattle.entries.proofs.entry.said.Tie as tie
 

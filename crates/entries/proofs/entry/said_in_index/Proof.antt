@@ -1,6 +1,6 @@
 use mathlib.Core.Path.{sym, ◌∙◌}
 use Rattle.wire.proofs.Signs.{kept}
-use Rattle.entries.proofs.Says.{says-index, says-index-unknown}
+use Rattle.entries.proofs.Sayings.{says-index, says-index-unknown}
 use Rattle.entries.proofs.entry.said_in_index.Statement.{statement}
 use Rattle.entries.proofs.entry.said_in_index.Tie as tie
 

@@ -1,7 +1,7 @@
 use mathlib.Core.Path.{refl, sym, ◌∙◌}
 use Rattle.layout.specs.Layout.{of_index, values}
 use Rattle.record.proofs.Tell.{kept}
-use Rattle.entries.proofs.Says.{says-index, says-index-unknown}
+use Rattle.entries.proofs.Sayings.{says-index, says-index-unknown}
 use Rattle.prices.proofs.Told.{told}
 use Rattle.prices.proofs.step.index_entry.Statement.{statement}
 use Rattle.prices.proofs.step.index_entry.Tie as tie

@@ -2,7 +2,7 @@ use mathlib.Core.Path.{refl}
 use lib.IntN.{pos}
 use Rattle.layout.specs.Layout.{values}
 use Rattle.record.proofs.Tell.{kept}
-use Rattle.entries.proofs.Says.{zero_fits, same_bits, other_bits}
+use Rattle.entries.proofs.Sayings.{zero_fits, same_bits, other_bits}
 use Rattle.prices.proofs.step.leveled.Statement.{statement}
 use Rattle.prices.proofs.step.leveled.Tie as tie
 

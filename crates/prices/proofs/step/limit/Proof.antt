@@ -1,6 +1,6 @@
 use mathlib.Core.Path.{refl, ◌∙◌}
 use Rattle.wire.proofs.Signs.{kept}
-use Rattle.entries.proofs.Says.{same_bits, other_bits}
+use Rattle.entries.proofs.Sayings.{same_bits, other_bits}
 use Rattle.prices.proofs.step.limit.Statement.{statement}
 use Rattle.prices.proofs.step.limit.Tie as tie
 

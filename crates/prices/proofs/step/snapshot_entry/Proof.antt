@@ -10,7 +10,7 @@ use Rattle.layout.specs.Kind.{among}
 use Rattle.layout.specs.Layout.{of_snapshot, values}
 use Rattle.record.proofs.Tell.{kept}
 use Rattle.entries.specs.Entry.{Says, levels, prices, price_in, says_in, entry_at}
-use Rattle.entries.proofs.Says.{says-leveled, says-price, says-xe, says-xf, says-xg, says_both, says-unknown}
+use Rattle.entries.proofs.Sayings.{says-leveled, says-price, says-xe, says-xf, says-xg, says_both, says-unknown}
 use Rattle.prices.specs.Entries.{price_of, price_left, saying, entry_from_c}
 use Rattle.prices.specs.declared.entry.Entry.{Entry}
 use Rattle.prices.proofs.Told.{numbers, told}
