@@ -20,7 +20,7 @@ use Rattle.frame.proofs.Framing.{unchanged_behind}
 use Rattle.frame.proofs.Frames.{walk_none, walk-frame, walk-refusal}
 use Rattle.frame.proofs.Far.{judged, missing, reach-within, reach_limit, whole-reach, reach-on, reach_past}
 use Rattle.streams.specs.declared.Stream.{Stream}
-use Rattle.streams.specs.Stream.{going, over, state, new_stream, Said, frame, Told, unfinished, stands, taken, read_on, kept_on, answer_again, stay, pushed, buffer_left, ended}
+use Rattle.streams.specs.Stream.{going, over, state, new_stream, Said, Told, unfinished, stands, taken, read_on, kept_on, answer_again, stay, pushed, buffer_left, ended}
 use Rattle.streams.specs.Steps.{Holding}
 use Rattle.streams.specs.Cutting.{PushCall, EndCall, PushAs, EndAs, Handed, from, given, Plays, push, next, wait, finish, give_up, whole, AtOnce, Cutting, Played, EveryCutting}
 use Rattle.streams.proofs.States.{none-lacks, take-splice, led-going, push-on, end_on}

@@ -1,0 +1,12 @@
+use Rattle.std.proofs.Common.{ap, sym, ◌∙◌}
+use borrow.Author.Tests.{ne_eqb}
+use Rattle.wire.specs.Refusal.{too_short}
+use Rattle.frame.specs.Framing.{header_width, body_limit, frame_refusal, means_framed}
+use Rattle.streams.proofs.States.{not-one}
+use Rattle.streams.proofs.cut.judge.Goals as goal
+
+pub returns-in-Refused : goal.returns-in-Refused
+returns-in-Refused c =
+    let e = sym c.read.ensures ∙ ap means_framed c.in-Refused.is in
+    let z = not-one header_width body_limit c.args.bytes.now c.requires.enough e in
+    c.stopped.ensures ∙ rw (e, ne_eqb (frame_refusal c.in-Refused.why) too_short z)

@@ -1,0 +1,14 @@
+use Rattle.std.proofs.Common.{◌∙◌}
+use Rattle.frame.specs.Framing.{header_width, body_limit}
+use Rattle.streams.proofs.Pushes.{keep_all}
+use Rattle.streams.proofs.cut.keep_all.Goals as goal
+
+pub keep-requires : goal.keep-requires
+keep-requires c =
+    let k = keep_all header_width body_limit c.args.buffer.now c.args.held c.args.cut.now c.requires in
+    (k.0, k.1)
+
+pub returns : goal.returns
+returns c =
+    let k = keep_all header_width body_limit c.args.buffer.now c.args.held c.args.cut.now c.requires in
+    record { result_value = c.more.ensures ∙ k.2; buffer_after = c.keep.ensures ∙ k.3 }
