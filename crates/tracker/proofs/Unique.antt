@@ -110,4 +110,4 @@ joined_of v a = record { verdict = v; next = made a }
 pub one-join : (t u : Tracker) (r s : Joined) → joining.Joins (arrays_of t) (arrays_of u) (means_joined r) → joining.Joins (arrays_of t) (arrays_of u) (means_joined s) → r ≡ s
 one-join t u r s p q =
     let e = arrays-one (arrays_of t) (arrays_of u) (arrays_of r.next) (arrays_of s.next) r.verdict s.verdict p q in
-    let z : joined_of r.verdict (arrays_of r.next) ≡ joined_of s.verdict (arrays_of s.next) = rw (e.0, e.1) in z
+    λ i. joined_of (e.0 i) (e.1 i)
