@@ -40,7 +40,7 @@ def functions(archive, objdump):
             frames[name] += WORD
         elif taken := re.search(r"\tsub\s+\$0x([0-9a-f]+),%rsp", line):
             frames[name] += int(taken[1], 16)
-        elif called := re.search(r"R_X86_64_PLT32\s+(?:\.text\.)?(\S+)-0x4$", line):
+        elif called := re.search(r"R_X86_64_PLT32\s+(?:\.text\.)?(.+)-0x4$", line):
             calls[name].add(called[1])
         elif wanted := re.search(r"\*UND\*\s+0+ (.+)$", line):
             linked.add(wanted[1])
