@@ -7,7 +7,7 @@ use Rattle.gaps.specs.Limits.{run_limit}
 use Rattle.gaps.specs.Gaps.{grow}
 use Rattle.gaps.specs.Built.{padded}
 use Rattle.gaps.specs.Channel.{changed, natural, Event, ArrivalSaid, too_low, judge_event}
-use Rattle.seats.specs.Arrays.{Lent, Passed, in_arrays}
+use Rattle.seats.specs.Arrays.{Lent, LentMut, PassedMut, in_arrays_mut}
 use Rattle.seats.specs.Places.{channel_limit, place_count}
 use Rattle.seats.specs.Rules.{sound_row}
 use Rattle.rows.specs.declared.Held.{Held}
@@ -58,22 +58,22 @@ Judges t k low (At i) = (low ≡ false) × SoundIn t i × ((e : Event) → arriv
 -- ---- what lent arrays become
 
 -- the answer, and those of the next tracker, with these first numbers, whatever the count of channels and their numbers
-abbrev pub BecomesFrom : Lent → Verdict → (Tracker → Outcome) → (highest ended counts first last : Passed) → Type 0
+abbrev pub BecomesFrom : Lent → Verdict → (Tracker → Outcome) → (highest ended counts first last : PassedMut) → Type 0
 BecomesFrom from r next highest ended counts first last =
     (k : ℕ) (ns : Lent) →
-    answered r (made (in_arrays k ns from highest.exit ended.exit counts.exit first.exit last.exit)) ≡
-    next (made (in_arrays k ns from highest.entry ended.entry counts.entry first.entry last.entry))
+    answered r (made (in_arrays_mut k ns from highest.exit ended.exit counts.exit first.exit last.exit)) ≡
+    next (made (in_arrays_mut k ns from highest.entry ended.entry counts.entry first.entry last.entry))
 
 -- the same, whatever the first numbers
-abbrev pub Becomes : Verdict → (Tracker → Outcome) → (highest ended counts first last : Passed) → Type 0
+abbrev pub Becomes : Verdict → (Tracker → Outcome) → (highest ended counts first last : PassedMut) → Type 0
 Becomes r next highest ended counts first last = (from : Lent) → BecomesFrom from r next highest ended counts first last
 
 -- the same of the runs alone, whatever the highest numbers and the marks too
-abbrev pub Relays : Verdict → (Tracker → Outcome) → (counts first last : Passed) → Type 0
+abbrev pub Relays : Verdict → (Tracker → Outcome) → (counts first last : PassedMut) → Type 0
 Relays r next counts first last =
-    (from : Lent) (k : ℕ) (ns h e : Lent) →
-    answered r (made (in_arrays k ns from h e counts.exit first.exit last.exit)) ≡
-    next (made (in_arrays k ns from h e counts.entry first.entry last.entry))
+    (from : Lent) (k : ℕ) (ns : Lent) (h e : LentMut) →
+    answered r (made (in_arrays_mut k ns from h e counts.exit first.exit last.exit)) ≡
+    next (made (in_arrays_mut k ns from h e counts.entry first.entry last.entry))
 
 -- ---- numbers that become missing
 

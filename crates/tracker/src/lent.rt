@@ -4,7 +4,7 @@ ghost use Rattle.gaps.specs.Limits.{run_limit, most_number};
 ghost use Rattle.gaps.specs.Channel.{tick, heartbeat};
 ghost use Rattle.seats.specs.Places.{channel_limit, place_count};
 ghost use Rattle.rows.specs.declared.Held.TheVariants.{Alone, Inside};
-ghost use Rattle.seats.specs.Arrays.{at_entry, at_exit};
+ghost use Rattle.seats.specs.Arrays.{at_entry_mut, at_exit};
 ghost use Rattle.tracker.specs.Places.{made};
 ghost use Rattle.tracker.specs.Arrived.{on, arrive, arrival_said, answered};
 ghost use Rattle.tracker.specs.Inside.{SoundAt, SoundFrom, BecomesFrom, Becomes, Relays, stepped, raising, Changeable, late_as};
@@ -27,7 +27,7 @@ pub fn tick_in<'a>(
     channel: u16,
     number: i64,
 ) -> Verdict
-    ensures { answered result (made (at_exit count numbers from highest ended counts first last)) ≡ arrive (made (at_entry count numbers from highest ended counts first last)) (on channel (tick number)) }
+    ensures { answered result (made (at_exit count numbers from highest ended counts first last)) ≡ arrive (made (at_entry_mut count numbers from highest ended counts first last)) (on channel (tick number)) }
 {
     let n = signs::natural(number);
     let judged = judge(
@@ -62,7 +62,7 @@ pub fn heartbeat_in<'a>(
     number: i64,
     end: bool,
 ) -> Verdict
-    ensures { answered result (made (at_exit count numbers from highest ended counts first last)) ≡ arrive (made (at_entry count numbers from highest ended counts first last)) (on channel (heartbeat number end)) }
+    ensures { answered result (made (at_exit count numbers from highest ended counts first last)) ≡ arrive (made (at_entry_mut count numbers from highest ended counts first last)) (on channel (heartbeat number end)) }
 {
     let judged = judge(
         channel,
