@@ -51,6 +51,7 @@ shares r s = go (leb (larger r.first s.first) (smaller r.last s.last)) refl (lar
 
 shared-out : (r s : Run) (l : List Run) (i : ℕ) → Shares r s l → In l i → (r.first ≤ i) × (i ≤ r.last) × (s.first ≤ i) × (i ≤ s.last)
 shared-out r s l i (some a b p q u v w x y) (inl z) = (omega arith, omega arith, omega arith, omega arith)
+shared-out r s l i (some a b p q u v w x y) (inr z) = absurd z
 shared-out r s l i (none p) z = absurd z
 
 shared_in : (r s : Run) (l : List Run) (i : ℕ) → Shares r s l → r.first ≤ i → i ≤ r.last → s.first ≤ i → i ≤ s.last → In l i

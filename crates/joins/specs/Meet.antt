@@ -5,7 +5,7 @@ use Rattle.gaps.specs.declared.Run.{Run}
 use Rattle.gaps.specs.Gaps.{run, larger, fill}
 use Rattle.gaps.specs.Limits.{run_limit}
 use Rattle.gaps.specs.Channel.{Channel}
-use Rattle.seats.specs.Arrays.{Arrays, arrays, Passed}
+use Rattle.seats.specs.Arrays.{Arrays, arrays, Passed, PassedMut}
 use Rattle.seats.specs.Places.{channel_limit, span}
 use Rattle.seats.specs.Channels.{channel_in, put_in}
 use Rattle.seats.specs.Rules.{all_zero}
@@ -88,7 +88,7 @@ FitsAll highest ended counts first last highest' ended' counts' first' last' n =
     (i : ℕ) → i < n → FitsAt highest ended counts first last highest' ended' counts' first' last' i
 
 -- these arrays become those of another tracker, whatever the counts of channels, their numbers and first numbers
-abbrev pub Becomes : (Arrays → Arrays → Arrays) → (highest ended counts first last highest' ended' counts' first' last' : Passed) → Type 0
+abbrev pub Becomes : (Arrays → Arrays → Arrays) → (highest ended counts first last : PassedMut) (highest' ended' counts' first' last' : Passed) → Type 0
 Becomes next highest ended counts first last highest' ended' counts' first' last' =
     (count count' : ℕ) (numbers from numbers' from' : List ℕ) →
     arrays count numbers from highest.exit.now ended.exit.now counts.exit.now first.exit.now last.exit.now ≡

@@ -2,7 +2,7 @@
 #![tactic(auto)]
 
 ghost use Rattle.std.specs.Prelude.{◌≡◌};
-ghost use Rattle.seats.specs.Arrays.{at_entry, at_end};
+ghost use Rattle.seats.specs.Arrays.{at_entry, at_end, at_entry_mut, at_end_mut};
 ghost use Rattle.wire.specs.Number.{answer_number};
 ghost use Rattle.joins.specs.Join.{same_set_up, Joins, join_said, answered};
 ghost use Rattle.joins.specs.Meet.{heads};
@@ -83,8 +83,8 @@ pub fn join_in<'a>(
     other_first: &'a [u64; Seat::PLACES],
     other_last: &'a [u64; Seat::PLACES],
 ) -> JoinVerdict
-    ensures joins { Joins (at_entry count numbers from highest ended counts first last) (at_entry other_count other_numbers other_from other_highest other_ended other_counts other_first other_last) (answered result (at_end count numbers from highest ended counts first last)) }
-    ensures other_last_value { at_end other_count other_numbers other_from other_highest other_ended other_counts other_first other_last ≡ at_entry other_count other_numbers other_from other_highest other_ended other_counts other_first other_last }
+    ensures joins { Joins (at_entry_mut count numbers from highest ended counts first last) (at_entry other_count other_numbers other_from other_highest other_ended other_counts other_first other_last) (answered result (at_end_mut count numbers from highest ended counts first last)) }
+    ensures other_stays { at_end other_count other_numbers other_from other_highest other_ended other_counts other_first other_last ≡ at_entry other_count other_numbers other_from other_highest other_ended other_counts other_first other_last }
 {
     if !sound(count, numbers, from, highest, ended, counts, first, last) {
         return JoinVerdict::Malformed;
