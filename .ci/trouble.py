@@ -43,12 +43,17 @@ def full(name, capture):
         return b"", *told(start(name, stdin, stdout))
 
 
-def closed(name, capture):
+def closed(name, capture, ignored=True):
     """Nobody reads the pipe, and SIGPIPE is ignored."""
     out, into = os.pipe()
     os.close(out)
     with open(capture, "rb") as stdin, open(into, "wb") as stdout:
-        return b"", *told(start(name, stdin, stdout, ignored=True))
+        return b"", *told(start(name, stdin, stdout, ignored))
+
+
+def unread(name, capture):
+    """Nobody reads the pipe, and SIGPIPE is as the system has it: the program ignores it."""
+    return closed(name, capture, ignored=False)
 
 
 def slow(name, capture):
@@ -76,6 +81,7 @@ def folder(name, capture):
 CASES = [
     (full, "standard output: No space left on device"),
     (closed, "standard output: Broken pipe"),
+    (unread, "standard output: Broken pipe"),
     (slow, "standard output: Resource temporarily unavailable"),
     (folder, "standard input: Is a directory"),
 ]

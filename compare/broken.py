@@ -1,10 +1,12 @@
-"""Broken builds of the product, each compared with the second program.
+"""Broken builds of the archive, each compared with the second program.
 
-Each edit of crates/NAME/must-fail is applied to a copy of the sources. The
-kit's own test program, which compiles without a proof, makes the archive.
+What rt builds is proved, so that a wrong program of a lower crate, which breaks
+the promise that those above stand on, can't be built. The exports can: nothing
+stands on them. Each edit of crates/orizhgum_c/must-fail is applied to a copy of
+that crate from which the promises are taken, and `rt lib` makes the archive.
 A line for each edit says on which call the comparison differed first.
 
-    python3 compare/broken.py [NAME/EDIT...]
+    python3 compare/broken.py [EDIT...]
 """
 
 import os
@@ -16,6 +18,7 @@ import tempfile
 from pathlib import Path
 
 TOP = Path(__file__).resolve().parent.parent
+EXPORTS = Path("crates/orizhgum_c")
 RUN = ["200000", "20170401"]
 TARGET = os.environ.get("CARGO_BUILD_TARGET")
 
@@ -25,18 +28,10 @@ def of_target(name):
     return os.environ[f"CARGO_TARGET_{TARGET.upper().replace('-', '_')}_{name}"]
 
 
-def crates():
-    """orizhgum, and what it uses."""
-    lines = (TOP / "crates.txt").read_text().splitlines()
-    uses = dict(line.split(":") for line in lines if ":" in line)
-    return uses["orizhgum"].split() + ["orizhgum"]
-
-
 def edited(folder, edit):
-    """Replaces each old text of an edit, which is there once, by its new one; a text may go over lines."""
+    """Replaces each old text of an edit, which is there once, by its new one."""
     path, old = None, None
-    parts = re.split(r"^(file|old|new): ?", edit.read_text(), flags=re.M)[1:]
-    for word, rest in zip(parts[::2], (part.removesuffix("\n") for part in parts[1::2])):
+    for word, rest in re.findall(r"^(file|old|new): ?(.*)$", edit.read_text(), flags=re.M):
         if word == "file":
             path = folder / rest
         elif word == "old":
@@ -48,9 +43,26 @@ def edited(folder, edit):
             path.write_text(text.replace(old, rest))
 
 
-def archive(scratch, sources):
-    """The archive of these sources, unproved."""
-    subprocess.run([TOP / ".ci/unproved", sources, "orizhgum", scratch / "liborizhgum.a"], check=True)
+def unpromised(folder):
+    """Takes the promises from a crate's code, and what they alone import."""
+    for path in folder.glob("src/*.rt"):
+        lines = path.read_text().splitlines(keepends=True)
+        path.write_text("".join(line for line in lines if not re.match(r" *ensures\b|ghost use\b", line)))
+
+
+def archive(scratch, edit):
+    """The archive with an edit, or as it is."""
+    sources = scratch / "sources"
+    shutil.rmtree(sources, ignore_errors=True)
+    shutil.copytree(TOP / "crates", sources / "crates", ignore=shutil.ignore_patterns("out"))
+    shutil.copy(TOP / "crates.txt", sources)
+    if edit:
+        edited(sources / EXPORTS, edit)
+    unpromised(sources / EXPORTS)
+    ran = subprocess.run(["rt", "lib"], cwd=sources / EXPORTS, stdout=subprocess.PIPE, stderr=subprocess.STDOUT, text=True)
+    if ran.returncode != 0:
+        sys.exit(f"{ran.stdout}{edit or 'the crate as it is'}: rt builds no archive")
+    shutil.copy(sources / EXPORTS / "out/liborizhgum_c.a", scratch / "liborizhgum.a")
 
 
 def rustc(*words):
@@ -77,23 +89,12 @@ def main(wanted):
     with tempfile.TemporaryDirectory() as folder:
         scratch = Path(folder)
         rustc("src/lib.rs", "--crate-type", "rlib", "--crate-name", "compare", "-o", scratch / "libcompare.rlib")
-        edits = [edit for name in crates() for edit in sorted((TOP / "crates" / name / "must-fail").glob("*.edit"))]
-        unedited = None
-        for edit in [None] + edits:
-            label = f"{edit.parent.parent.name}/{edit.stem}" if edit else "as it is"
+        for edit in [None, *sorted((TOP / EXPORTS / "must-fail").glob("*.edit"))]:
+            label = edit.stem if edit else "as it is"
             if edit and wanted and label not in wanted:
                 continue
-            sources = scratch / "crates"
-            shutil.rmtree(sources, ignore_errors=True)
-            shutil.copytree(TOP / "crates", sources)
-            if edit:
-                edited(sources / edit.parent.parent.name, edit)
-            archive(scratch, sources)
-            built = (scratch / "liborizhgum.a").read_bytes()
-            unedited = unedited or built
-            same = edit and built == unedited
-            told = "the archive is the same" if same else first_difference(scratch)
-            print(f"{label}: {told}", flush=True)
+            archive(scratch, edit)
+            print(f"{label}: {first_difference(scratch)}", flush=True)
 
 
 main(sys.argv[1:])
