@@ -1,7 +1,7 @@
 // For C: the tracker set up, ticks and channel heartbeats.
 ghost use Rattle.std.specs.Prelude.{◌≡◌};
 ghost use Rattle.gaps.specs.Channel.{tick, heartbeat};
-ghost use Rattle.seats.specs.Arrays.{at_entry, at_exit};
+ghost use Rattle.seats.specs.Arrays.{at_entry_mut, at_exit};
 ghost use Rattle.tracker.specs.Places.{made};
 ghost use Rattle.tracker.specs.SetUp.{set_up};
 ghost use Rattle.tracker.specs.Arrived.{on, arrive};
@@ -31,7 +31,7 @@ pub extern "C" fn orizhgum_tick_in<'a>(
     channel: u16,
     number: i64,
 ) -> u32
-    ensures { replied result (made (at_exit count numbers from highest ended counts first last)) ≡ arrival_answer (arrive (made (at_entry count numbers from highest ended counts first last)) (on channel (tick number))) }
+    ensures { replied result (made (at_exit count numbers from highest ended counts first last)) ≡ arrival_answer (arrive (made (at_entry_mut count numbers from highest ended counts first last)) (on channel (tick number))) }
 {
     orizhgum::arrivals::orizhgum_tick_in(
         count, numbers, from, highest, ended, counts, first, last, channel, number,
@@ -52,7 +52,7 @@ pub extern "C" fn orizhgum_heard_in<'a>(
     last_number: i64,
     end: u8,
 ) -> u32
-    ensures { replied result (made (at_exit count numbers from highest ended counts first last)) ≡ arrival_answer (arrive (made (at_entry count numbers from highest ended counts first last)) (on channel (heartbeat last_number (ending end)))) }
+    ensures { replied result (made (at_exit count numbers from highest ended counts first last)) ≡ arrival_answer (arrive (made (at_entry_mut count numbers from highest ended counts first last)) (on channel (heartbeat last_number (ending end)))) }
 {
     orizhgum::arrivals::orizhgum_heard_in(
         count,

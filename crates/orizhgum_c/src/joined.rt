@@ -1,6 +1,6 @@
 // For C: two trackers joined.
 ghost use Rattle.std.specs.Prelude.{◌≡◌};
-ghost use Rattle.seats.specs.Arrays.{at_entry, at_end};
+ghost use Rattle.seats.specs.Arrays.{at_entry, at_end, at_entry_mut, at_end_mut};
 ghost use Rattle.orizhgum.specs.Joined.{JoinsFromC, join_replied};
 
 use seats::Seat;
@@ -25,7 +25,7 @@ pub extern "C" fn orizhgum_join_in<'a>(
     other_first: &'a [u64; Seat::PLACES],
     other_last: &'a [u64; Seat::PLACES],
 ) -> u32
-    ensures joins_from_c { JoinsFromC (at_entry count numbers from highest ended counts first last) (at_entry other_count other_numbers other_from other_highest other_ended other_counts other_first other_last) (join_replied result (at_end count numbers from highest ended counts first last)) }
+    ensures joins_from_c { JoinsFromC (at_entry_mut count numbers from highest ended counts first last) (at_entry other_count other_numbers other_from other_highest other_ended other_counts other_first other_last) (join_replied result (at_end_mut count numbers from highest ended counts first last)) }
     ensures other_last_value { at_end other_count other_numbers other_from other_highest other_ended other_counts other_first other_last ≡ at_entry other_count other_numbers other_from other_highest other_ended other_counts other_first other_last }
 {
     orizhgum::joined::orizhgum_join_in(
