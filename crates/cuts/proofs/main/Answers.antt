@@ -1,0 +1,6 @@
+use Rattle.std.proofs.Common.{ℕ, sym}
+use lib.ListN.{length-replicate}
+use Rattle.cuts.proofs.main.Goals as goal
+
+pub slice_bounds-run-end : goal.slice_bounds-run-end
+slice_bounds-run-end c = sym (length-replicate {0} {A = ℕ} _ 0)
