@@ -1,0 +1,12 @@
+use Rattle.layout.specs.Layout.{order}
+use Rattle.bodies.specs.Body.{text_size}
+use Rattle.bodies.proofs.Parts.{other_words, parts}
+use Rattle.bodies.proofs.order.order_verdict.Goals as goal
+
+pub returns-then-texts-ne-TEXTS_SIZE : goal.returns-then-texts-ne-TEXTS_SIZE
+unfolding text_size
+returns-then-texts-ne-TEXTS_SIZE c = other_words order _ _ _ c.if-texts-ne-TEXTS_SIZE.true
+
+pub returns : goal.returns
+unfolding text_size
+returns c = parts order _ _ _ c.if-texts-ne-TEXTS_SIZE.false c.also.ensures c.in_range.ensures c.none.ensures
