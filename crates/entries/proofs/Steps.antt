@@ -8,7 +8,7 @@ use native.Mathlib.Omega.{arith}
 use borrow.Author.Tests.{lt-ltb, le-ltb}
 use lib.Dec.{lit<, leb-suc-suc}
 use Rattle.wire.specs.Answer.{Answer, accepted, refused, guard, and_then}
-use Rattle.layout.specs.Layout.{Message, fields, Listed, listed, unlisted, named, Group, Behind, nothing, groups, entries, behind, Entries, entry_group, ranges}
+use Rattle.layout.specs.Layout.{Message, Listed, listed, unlisted, named, Group, Behind, nothing, groups, entries, behind, Entries, entry_group, ranges}
 use Rattle.layout.specs.Group.{shown, shown_offset, next_offset, group_offset, fit, quantities, group_ranges, judge_groups, groups_start, count_at, judge_body}
 use Rattle.layout.proofs.Walk.{and_both, fit-fewer, ahead, group_ranges-step, group_ranges-none, Good, good}
 use Rattle.record.specs.Asked.{Asked, found, no_such_entry, below, judge_listed, judge}
