@@ -1,0 +1,25 @@
+use borrow.Author.Rules.{rules}
+use Prim.Native.Nat.{ℕ}
+use mathlib.Core.List.{List, []}
+use mathlib.Core.Path.{refl, ap, sym, ◌∙◌}
+use lib.Dec.{lit<}
+use Rattle.layout.proofs.Walk.{has_all}
+use Rattle.layout.specs.Layout.{index, fields, size, texts}
+use Rattle.record.specs.Asked.{filled}
+use Rattle.record.specs.Record.{numbers_as}
+use Rattle.record.proofs.Had.{had-none, had_all}
+use Rattle.record.proofs.Tell.{found_by}
+use Rattle.orizhgum.proofs.Shown.{shown-accepted, shown-refused}
+use Rattle.orizhgum.proofs.records.orizhgum_index.Goals as goal
+
+pub returns-in-Accepted : goal.returns-in-Accepted
+returns-in-Accepted c = let s = c.args.body.now in
+    let e = sym c.in-Accepted.ensures in
+    let h = had_all index s (has_all index s e).long in
+    shown-accepted index s e (c.index_of.ensures ∙ ap (numbers_as index) h) (c.index_texts-t.ensures.0 ∙ ap (λ (l : List ℕ). filled (texts (fields index) l 0)) h)
+
+pub returns-in-Refused : goal.returns-in-Refused
+unfolding size
+returns-in-Refused c = let s = c.args.body.now in
+    let e = sym c.in-Refused.ensures in
+    rw c.number.ensures (shown-refused index s e (c.index_of-in-Refused.ensures ∙ ap (numbers_as index) (had-none index [] (lit< tt))) refl)
