@@ -8,7 +8,7 @@ use lib.Dec.{lit≤}
 use lib.ListN.{length, take, drop, length-append, length-drop}
 use lib.Seq.{drop_at, take-add, length-take-le, take-append_seam}
 use Rattle.wire.specs.Answer.{accepted}
-use Rattle.wire.specs.Bytes.{Bytes, be_at, digits, part, total, checksum_of}
+use Rattle.wire.specs.Bytes.{Bytes, be_at, digits, part, checksum_of}
 use Rattle.wire.proofs.Be.{be_at-between, be_at-behind, fewer}
 use Rattle.wire.proofs.Digits.{length_digits, be-digits, digits-be_at}
 use Rattle.frame.specs.Framing.{header_width, sum_width, body_limit, type_of, length_of, read}

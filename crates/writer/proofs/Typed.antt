@@ -30,9 +30,9 @@ pub record Told (m : Message) (zs : List ℤ) (ts gs out : List ℕ) (a : Writte
   pub says : means_written a ≡ write_known m zs ts gs (length out)
 
 pub told :
-    (m : Message) {zs : List ℤ} {ts gs out : List ℕ} {v : Answer Unit} {a u : Written} → v ≡ verdict_of m zs ts gs →
+    (m : Message) {zs : List ℤ} {ts gs : List ℕ} (out : List ℕ) {v : Answer Unit} {a u : Written} → v ≡ verdict_of m zs ts gs →
     means_written a ≡ and_then v (λ (x : Unit). room_for_frame (size (fields m) + length gs) (length out)) → a ≡ u → Told m zs ts gs out u
-told m {zs} {ts} {gs} {out} e h i =
+told m {zs} {ts} {gs} out e h i =
     record {
       says =
           sym (ap means_written i)

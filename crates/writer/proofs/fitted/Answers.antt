@@ -1,5 +1,4 @@
 use Rattle.std.proofs.Common.{◌+◌, arith}
-use borrow.Author.Rules.{rules}
 use Rattle.writer.proofs.Judging.{fit_long, fit_short, fit-whole}
 use Rattle.writer.proofs.fitted.Goals as goal
 

@@ -1,5 +1,4 @@
 use Rattle.std.proofs.Common.{ℕ, ◌+◌, length, refl}
-use borrow.Author.Rules.{rules}
 use Rattle.writer.proofs.Output.{sealed}
 use Rattle.writer.proofs.store.seal.Goals as goal
 
