@@ -1,0 +1,29 @@
+use Rattle.std.proofs.Common.{sym}
+use Rattle.layout.specs.Layout.{of_index}
+use Rattle.entries.proofs.Entries.{fits}
+use Rattle.prices.proofs.Told.{none_left, refused-there, stepped-over}
+use Rattle.prices.proofs.step.in_index.Goals as goal
+
+pub returns-then-left-eq0 : goal.returns-then-left-eq0
+returns-then-left-eq0 c =
+    let r = none_left of_index c.args.body.now c.args.offset c.args.left c.args.price.now c.if-left-eq0.true c.none.ensures in
+    record { value = r.0; price_after = r.1 }
+
+pub over_index-requires : goal.over_index-requires
+over_index-requires c = fits _ _ _ _ (sym c.in-Accepted.ensures)
+
+pub returns-in-Accepted : goal.returns-in-Accepted
+returns-in-Accepted c =
+    let r =
+    stepped-over of_index c.args.body.now c.args.offset c.args.left c.args.price.now c.if-left-eq0.false (sym c.in-Accepted.ensures)
+    (c.over_index.ensures.value, c.over_index.ensures.price_after)
+    in
+    record { value = r.0; price_after = r.1 }
+
+pub returns-in-Refused : goal.returns-in-Refused
+returns-in-Refused c =
+    let r =
+    refused-there of_index c.args.body.now c.args.offset c.args.left c.args.price.now c.if-left-eq0.false c.in-Refused.x
+    c.judge.ensures c.in-Refused.is (rw c.number.ensures at c.none-in-Refused.ensures)
+    in
+    record { value = r.0; price_after = r.1 }
