@@ -1,7 +1,7 @@
 // A bench program: the frames of standard input, decoded. A line for each record, an indented line for each group and entry.
 #![tactic(auto)]
 
-ghost use Rattle.std.specs.Prelude.{◌≤◌, length};
+ghost use Rattle.std.specs.Prelude.{◌≤◌, length, IfOk};
 
 mod below;
 mod field;
@@ -15,7 +15,8 @@ use entries::{Cursor, Step};
 use frame::{Frame, Framed};
 use layout::TEXT_ROOM;
 use record::Record;
-use window::Held;
+use std::io;
+use std::io::{Read, Write};
 use wire::answers;
 use words::Line;
 
@@ -31,8 +32,8 @@ const TABLE: usize = 2048;
 // A piece of a line is shorter than this.
 const MARGIN: usize = 1024;
 
-// Where the program is: bytes of the window that are shown, offset and frames so far, bytes gathered, the number of the refusal
-// 1 to 3 at that offset, 0 where there is none, and whether a write failed.
+// Where the program is: bytes of the window that are shown, offset and frames so far, bytes gathered, and the number of the
+// refusal 1 to 3 at that offset, 0 where there is none.
 #[derive(Clone, Copy)]
 struct Progress {
     from: usize,
@@ -40,44 +41,45 @@ struct Progress {
     frames: u64,
     gathered: usize,
     refused: u32,
-    failed: bool,
 }
 
 // Tells a read that failed, and a write.
-fn input_failed() {
-    os::fail(b"show: standard input");
+fn input_failed(rt: &impl Eprint, why: io::Error) {
+    window::tell(rt, "show: standard input", why);
 }
 
-fn output_failed() {
-    os::fail(b"show: standard output");
+fn output_failed(rt: &impl Eprint, why: io::Error) {
+    window::tell(rt, "show: standard output", why);
 }
 
 // So many bytes are gathered, and no write failed.
-fn good(count: usize) -> Held {
-    Held {
-        count,
-        failed: false,
-    }
+fn good(count: usize) -> io::Result<usize> {
+    Ok(count)
 }
 
 // A line, or a part of one, behind what is gathered, which is written first where there is little room.
-fn piece(out: &mut [u8], at: usize, table: &[u8], kind: u32, line: Line) -> Held {
-    let room = window::flush(out, at, MARGIN);
-    if room.failed {
-        return room;
-    }
-    good(words::write(out, room.count, table, kind, line))
+fn piece<W: Write>(
+    output: &mut W,
+    out: &mut [u8],
+    at: usize,
+    table: &[u8],
+    kind: u32,
+    line: Line,
+) -> io::Result<usize> {
+    let held = window::flush(output, out, at, MARGIN)?;
+    good(words::write(out, held, table, kind, line))
 }
 
 // The shown quantities that stand in a body from an offset up to another.
-fn show_quantities(
+fn show_quantities<W: Write>(
+    output: &mut W,
     out: &mut [u8],
     at: usize,
     table: &[u8],
     body: &[u8],
     from: usize,
     to: usize,
-) -> Held {
+) -> io::Result<usize> {
     let mut offset = at;
     let mut p = from;
     let mut number = table::FIRST_QUANTITY;
@@ -85,11 +87,14 @@ fn show_quantities(
         if to - p < below::QUANTITY {
             return good(offset);
         }
-        let put = piece(out, offset, table, 0, below::quantity(body, p, number));
-        if put.failed {
-            return put;
-        }
-        offset = put.count;
+        offset = piece(
+            output,
+            out,
+            offset,
+            table,
+            0,
+            below::quantity(body, p, number),
+        )?;
         number = table::QUANTITY;
         p += below::QUANTITY;
     }
@@ -97,7 +102,8 @@ fn show_quantities(
 }
 
 // Entry i of a body, whose shown quantities stand from an offset up to another.
-fn show_entry(
+fn show_entry<W: Write>(
+    output: &mut W,
     out: &mut [u8],
     at: usize,
     table: &[u8],
@@ -105,27 +111,22 @@ fn show_entry(
     line: Line,
     from: usize,
     to: usize,
-) -> Held {
-    let a = piece(out, at, table, 0, line);
-    if a.failed {
-        return a;
-    }
-    let b = show_quantities(out, a.count, table, body, from, to);
-    if b.failed {
-        return b;
-    }
-    good(text::word(out, b.count, b"\n"))
+) -> io::Result<usize> {
+    let a = piece(output, out, at, table, 0, line)?;
+    let b = show_quantities(output, out, a, table, body, from, to)?;
+    good(text::word(out, b, b"\n"))
 }
 
 // The entries of a body, by the cursor.
-fn show_entries(
+fn show_entries<W: Write>(
+    output: &mut W,
     out: &mut [u8],
     at: usize,
     table: &[u8],
     kind: u32,
     body: &[u8],
     count: u32,
-) -> Held {
+) -> io::Result<usize> {
     let start = Cursor::start(kind, body);
     let mut from = start.offset;
     let mut offset = at;
@@ -140,7 +141,8 @@ fn show_entries(
             Step::Found(e, next) => {
                 let to = next.offset;
                 let line = below::entry(i, e);
-                let put = show_entry(
+                offset = show_entry(
+                    output,
                     out,
                     offset,
                     table,
@@ -148,11 +150,7 @@ fn show_entries(
                     line,
                     below::behind(kind, from, to),
                     to,
-                );
-                if put.failed {
-                    return put;
-                }
-                offset = put.count;
+                )?;
                 from = to;
                 i = more;
             }
@@ -164,7 +162,15 @@ fn show_entries(
 }
 
 // The groups of a statistics body or a security status, one behind the other.
-fn show_groups(out: &mut [u8], at: usize, table: &[u8], kind: u32, all: &[u8], count: u32) -> Held {
+fn show_groups<W: Write>(
+    output: &mut W,
+    out: &mut [u8],
+    at: usize,
+    table: &[u8],
+    kind: u32,
+    all: &[u8],
+    count: u32,
+) -> io::Result<usize> {
     let width = below::width(kind);
     let mut from: usize = 0;
     let mut offset = at;
@@ -175,16 +181,14 @@ fn show_groups(out: &mut [u8], at: usize, table: &[u8], kind: u32, all: &[u8], c
         }
         let to = from + width;
         let put = piece(
+            output,
             out,
             offset,
             table,
             kind,
             below::group(kind, &all[from..to], i),
-        );
-        if put.failed {
-            return put;
-        }
-        offset = text::word(out, put.count, b"\n");
+        )?;
+        offset = text::word(out, put, b"\n");
         from = to;
         i += 1;
     }
@@ -192,23 +196,22 @@ fn show_groups(out: &mut [u8], at: usize, table: &[u8], kind: u32, all: &[u8], c
 }
 
 // All lines of a frame at an offset.
-fn show_frame(
+fn show_frame<W: Write>(
+    output: &mut W,
     out: &mut [u8],
     at: usize,
     table: &[u8],
     offset: u64,
     kind: u32,
     body: &[u8],
-) -> Held {
+) -> io::Result<usize> {
     let head = line::of_frame(wire::signed(offset), kind, body);
     let count = head.count;
-    let put = piece(out, at, table, kind, head.line);
-    if put.failed {
-        return put;
-    }
-    let offset = text::word(out, put.count, b"\n");
+    let put = piece(output, out, at, table, kind, head.line)?;
+    let offset = text::word(out, put, b"\n");
     if (kind == Record::STATISTICS) | (kind == Record::SECURITY_STATUS) {
         return show_groups(
+            output,
             out,
             offset,
             table,
@@ -217,12 +220,18 @@ fn show_frame(
             count,
         );
     }
-    show_entries(out, offset, table, kind, body, count)
+    show_entries(output, out, offset, table, kind, body, count)
 }
 
 // Shows the frames of the window's bytes, up to a refusal or a failed write.
-fn show_window(bytes: &[u8], out: &mut [u8], table: &[u8], start: Progress) -> Progress
-    ensures { result.from ≤ length bytes.now }
+fn show_window<W: Write>(
+    output: &mut W,
+    bytes: &[u8],
+    out: &mut [u8],
+    table: &[u8],
+    start: Progress,
+) -> io::Result<Progress>
+    ensures { IfOk result (λ p. p.from ≤ length bytes.now) }
 {
     let mut from: usize = 0;
     let mut offset = start.offset;
@@ -232,43 +241,38 @@ fn show_window(bytes: &[u8], out: &mut [u8], table: &[u8], start: Progress) -> P
         let part = &bytes[from..];
         match frame::read(part) {
             Framed::Whole(f) => {
-                let held = show_frame(out, gathered, table, offset, f.kind, frame::body(part));
-                gathered = held.count;
+                gathered = show_frame(
+                    output,
+                    out,
+                    gathered,
+                    table,
+                    offset,
+                    f.kind,
+                    frame::body(part),
+                )?;
                 from += f.total;
                 offset = std::num::wrapping_add_u64(offset, f.total as u64);
                 frames = std::num::wrapping_add_u64(frames, 1);
-                if held.failed {
-                    return Progress {
-                        from,
-                        offset,
-                        frames,
-                        gathered,
-                        refused: 0,
-                        failed: true,
-                    };
-                }
             }
             Framed::Refused(why) => {
                 let refused = frame::number(why);
-                return Progress {
+                return Ok(Progress {
                     from,
                     offset,
                     frames,
                     gathered,
                     refused,
-                    failed: false,
-                };
+                });
             }
         }
     }
-    Progress {
+    Ok(Progress {
         from,
         offset,
         frames,
         gathered,
         refused: 0,
-        failed: false,
-    }
+    })
 }
 
 // The last line, as the listing's. The bytes that are left tell what is missing, where they are a cut frame.
@@ -305,61 +309,83 @@ fn last(left: &[u8], progress: Progress) -> Line {
 }
 
 // Writes all that is gathered, and tells a failed write.
-fn put(out: &[u8], gathered: usize) {
-    let held = window::flush(out, gathered, GATHERED + 1);
-    if held.failed {
-        output_failed();
+fn put<W: Write>(rt: &impl Eprint, output: &mut W, out: &[u8], gathered: usize) {
+    if let Err(why) = window::flush(output, out, gathered, GATHERED + 1) {
+        output_failed(rt, why);
     }
 }
 
 // Writes the last line, and all that is gathered.
-fn finish(left: &[u8], out: &mut [u8], table: &[u8], progress: Progress) {
+fn finish<W: Write>(
+    rt: &impl Eprint,
+    output: &mut W,
+    left: &[u8],
+    out: &mut [u8],
+    table: &[u8],
+    progress: Progress,
+) {
     let a = words::write(out, progress.gathered, table, 0, last(left, progress));
     let b = text::word(out, a, b"\n");
-    put(out, b);
+    put(rt, output, out, b);
 }
 
-// Shows the frames of standard input. A refusal 1 waits for more bytes while there are any; the turns are more than any input takes.
+// Shows the frames of an input. A refusal 1 waits for more bytes while there are any; the turns are more than any input takes.
 // A read or a write that fails is told, and no line says that all is shown.
-fn show(bytes: &mut [u8], out: &mut [u8], table: &[u8]) {
+fn show<R: Read, W: Write>(
+    rt: &impl Eprint,
+    input: &mut R,
+    output: &mut W,
+    bytes: &mut [u8],
+    out: &mut [u8],
+    table: &[u8],
+) {
     let mut progress = Progress {
         from: 0,
         offset: 0,
         frames: 0,
         gathered: 0,
         refused: 0,
-        failed: false,
     };
     let mut held: usize = 0;
     let mut turns = u64::MAX;
     while 0 < turns {
         turns -= 1;
-        let filled = window::fill(bytes, held);
-        if filled.failed {
-            input_failed();
-            put(out, progress.gathered);
-            return;
-        }
-        let now_held = filled.count;
-        progress = show_window(&bytes[0..now_held], out, table, progress);
-        if progress.failed {
-            output_failed();
-            return;
-        }
+        let now_held = match window::fill(input, bytes, held) {
+            Ok(n) => n,
+            Err(why) => {
+                input_failed(rt, why);
+                put(rt, output, out, progress.gathered);
+                return;
+            }
+        };
+        progress = match show_window(output, &bytes[0..now_held], out, table, progress) {
+            Ok(p) => p,
+            Err(why) => {
+                output_failed(rt, why);
+                return;
+            }
+        };
         let from = progress.from;
         if (now_held == held) | (1 < progress.refused) {
-            finish(&bytes[from..now_held], out, table, progress);
+            finish(rt, output, &bytes[from..now_held], out, table, progress);
             return;
         }
         held = window::slide(bytes, from, now_held);
     }
-    finish(&bytes[0..held], out, table, progress);
+    finish(rt, output, &bytes[0..held], out, table, progress);
 }
 
-fn main() {
+fn main(rt: HostRuntime) {
     let mut bytes = [0u8; WINDOW];
     let mut out = [0u8; GATHERED];
     let mut table = [0u8; TABLE];
     table::lay(&mut table);
-    show(&mut bytes, &mut out, &table);
+    show(
+        &rt,
+        &mut rt.stdin(),
+        &mut rt.stdout(),
+        &mut bytes,
+        &mut out,
+        &table,
+    );
 }

@@ -49,6 +49,7 @@ pub fn span(s: &[u8], at: usize, n: usize) -> &[u8]
 }
 
 // Out of the texts of an order or a trade.
+#[tactic(auto, unfolding(layout::specs::Layout::text_in))]
 fn order_text(which: Text, texts: &[u8]) -> &[u8]
     ensures { result.now ≡ text_in (meant which) (fields order) texts.now }
 {
@@ -64,6 +65,7 @@ fn order_text(which: Text, texts: &[u8]) -> &[u8]
 }
 
 // Out of the texts of a snapshot, an index or a volume index.
+#[tactic(auto, unfolding(layout::specs::Layout::text_in))]
 fn common_text(which: Text, texts: &[u8]) -> &[u8]
     ensures { result.now ≡ text_in (meant which) (fields snapshot) texts.now }
 {
@@ -79,6 +81,7 @@ fn common_text(which: Text, texts: &[u8]) -> &[u8]
 }
 
 // Out of the texts of a security status.
+#[tactic(auto, unfolding(layout::specs::Layout::text_in))]
 fn status_text(which: Text, texts: &[u8]) -> &[u8]
     ensures { result.now ≡ text_in (meant which) (fields security_status) texts.now }
 {
@@ -94,6 +97,7 @@ fn status_text(which: Text, texts: &[u8]) -> &[u8]
 }
 
 // Out of the texts of a resend.
+#[tactic(auto, unfolding(layout::specs::Layout::text_in))]
 fn resend_text(which: Text, texts: &[u8]) -> &[u8]
     ensures { result.now ≡ text_in (meant which) (fields resend) texts.now }
 {
@@ -109,6 +113,7 @@ fn resend_text(which: Text, texts: &[u8]) -> &[u8]
 }
 
 // Out of the texts of a group of a statistics body.
+#[tactic(auto, unfolding(layout::specs::Layout::text_in))]
 fn stream_text(which: Text, texts: &[u8]) -> &[u8]
     ensures { result.now ≡ text_in (meant which) streams.fields texts.now }
 {
