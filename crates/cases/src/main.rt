@@ -7,11 +7,13 @@ mod refused;
 mod said;
 mod table;
 
-fn main() {
+fn main(rt: HostRuntime) {
     let mut lines = [0u8; 4096];
     let a = refused::cases(&mut lines, 0);
     let b = table::cases(&mut lines, a);
     let c = asking::cases(&mut lines, b);
     let d = decimals::cases(&mut lines, c);
-    window::flush(&lines, d, 4097);
+    if let Err(why) = window::flush(&mut rt.stdout(), &lines, d, 4097) {
+        window::tell(&rt, "cases: standard output", why);
+    }
 }
