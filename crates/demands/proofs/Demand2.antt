@@ -73,7 +73,7 @@ unit_judged : (v : Answer Unit) → Accepted v → v ≡ accepted tt
 unit_judged (accepted u) k = refl
 unit_judged (refused n vs) k = not-both k
 
-follows : {type i : ℕ} {b : List ℕ} {c : Cursor} {x : Step} → StepsTo type b i c x → means_step x ≡ step_after (named type) b i (means_cursor c)
+follows : {type : ℕ} {b : List ℕ} {i : ℕ} {c : Cursor} {x : Step} → StepsTo type b i c x → means_step x ≡ step_after (named type) b i (means_cursor c)
 unfolding step_after
 follows (last_step h) = step_as h
 follows {type} {b = b} (then_on {i = i} z h e f p) =

@@ -37,6 +37,7 @@ fields_out (k ∷ ks) s at e = go (either (ranged k (be_at s at (width k))) _ e)
 
 fields_in : (ks : List Kind) (s : List ℕ) (at : ℕ) → ranges ks s at ≡ true → FieldOut ks s at → ⊥
 unfolding ranges
+fields_in [] s at e x = elim x [ ]
 fields_in (k ∷ ks) s at e (out.at_first h) = both (and_both (ranged k (be_at s at (width k))) _ e).0 h
 fields_in (k ∷ ks) s at e (out.further f) = fields_in ks s (at + width k) (and_both (ranged k (be_at s at (width k))) _ e).1 f
 
@@ -51,6 +52,7 @@ numbers-out (k ∷ ks) zs e = go (either (ranged k (bits (first zs))) _ e) (λ f
 
 numbers_in_lem : (ks : List Kind) (zs : List ℤ) → numbers_in ks zs ≡ true → NumberOut ks zs → ⊥
 unfolding numbers_in
+numbers_in_lem [] zs e x = elim x [ ]
 numbers_in_lem (k ∷ ks) zs e (out.at_first h) = both (and_both (ranged k (bits (first zs))) _ e).0 h
 numbers_in_lem (k ∷ ks) zs e (out.further f) = numbers_in_lem ks (numbers_behind (form k) zs) (and_both (ranged k (bits (first zs))) _ e).1 f
 

@@ -17,7 +17,7 @@ use Rattle.tracker.specs.Arrived.{Arrival, on, place, settled, arrive}
 use Rattle.orizhgum.specs.Arrivals.{said_number, ending, replied, arrival_answer}
 use Rattle.demands.specs.CalledFromC.{ArrivesFromC, by_tick, by_heartbeat}
 use Rattle.demands.specs.Interface.{done, step, EveryListPlaysFromC}
-use Rattle.demands.proofs.Calls.{lent}
+use Rattle.demands.proofs.Calls.{lent, lent_mut}
 
 -- an arrival leaves the count of channels, their numbers and first numbers, which are lent to be read alone
 record Stays (t u : Tracker) : Type 0 where
@@ -54,13 +54,13 @@ abbrev κs : Lfts 6
 heard : (t : Tracker) (k : ℕ) (m : ℤ) (b : ℕ) → ArrivesFromC t (on k (heartbeat m (ending b))) (said_number (arrive t (on k (heartbeat m (ending b)))).said) (under t (arrive t (on k (heartbeat m (ending b)))).next)
 heard t k m b =
     let u = (arrive t (on k (heartbeat m (ending b)))).next in
-    by_heartbeat κs t.count t.count (lent t.numbers) (lent t.numbers) (lent t.from) (lent t.from) (lent t.highest) (lent u.highest) (lent t.ended) (lent u.ended) (lent t.counts) (lent u.counts) (lent t.first) (lent u.first) (lent t.last) (lent u.last)
+    by_heartbeat κs t.count t.count (lent t.numbers) (lent t.numbers) (lent t.from) (lent t.from) (lent_mut t.highest) (lent_mut u.highest) (lent_mut t.ended) (lent_mut u.ended) (lent_mut t.counts) (lent_mut u.counts) (lent_mut t.first) (lent_mut u.first) (lent_mut t.last) (lent_mut u.last)
     k k m m b b _ (gives t (on k (heartbeat m (ending b))))
 
 arrives : (t : Tracker) (k : ℕ) (e : Event) → ArrivesFromC t (on k e) (said_number (arrive t (on k e)).said) (under t (arrive t (on k e)).next)
 arrives t k (tick n) =
     let u = (arrive t (on k (tick n))).next in
-    by_tick κs t.count t.count (lent t.numbers) (lent t.numbers) (lent t.from) (lent t.from) (lent t.highest) (lent u.highest) (lent t.ended) (lent u.ended) (lent t.counts) (lent u.counts) (lent t.first) (lent u.first) (lent t.last) (lent u.last)
+    by_tick κs t.count t.count (lent t.numbers) (lent t.numbers) (lent t.from) (lent t.from) (lent_mut t.highest) (lent_mut u.highest) (lent_mut t.ended) (lent_mut u.ended) (lent_mut t.counts) (lent_mut u.counts) (lent_mut t.first) (lent_mut u.first) (lent_mut t.last) (lent_mut u.last)
     k k n n _ (gives t (on k (tick n)))
 arrives t k (heartbeat m true) = heard t k m 1
 arrives t k (heartbeat m false) = heard t k m 0

@@ -37,7 +37,7 @@ use Rattle.demands.specs.Streams.{PushTells, push_tells, EndTells, end_tells, Pu
 use Rattle.demands.specs.Rules.{Rule, ◌if◌, ◌lacking◌provided◌, Judged, success, here, later}
 use Rattle.demands.specs.Conditions.{L, lacks, TooLongIn, WrongSumIn, GoesOn, LeftOver}
 use Rattle.demands.specs.Demand1.{push_rules, end_rules}
-use Rattle.demands.proofs.Calls.{lent, stream_push_as, stream_end_as, stream_push, stream_end}
+use Rattle.demands.proofs.Calls.{lent, lent_mut, stream_push_as, stream_end_as, stream_push, stream_end}
 use Rattle.demands.proofs.CalledFromC.{stream-push-from, stream-end-from}
 use Rattle.demands.proofs.Rules.{answered}
 
@@ -98,7 +98,7 @@ push_can_c st buffer c =
     let t = pushed header_width body_limit st buffer c in
     let left = buffer_left header_width body_limit st buffer c in
     let h : PushTellsC st buffer c (told_by (stream_answer t)) left =
-    push_tells_c (stream_answer t) (by_stream_push ([], ([], tt)) st st (lent buffer) (lent left) (lent c) (lent c) (stream_answer t) (refl, refl))
+    push_tells_c (stream_answer t) (by_stream_push ([], ([], tt)) st st (lent_mut buffer) (lent_mut left) (lent c) (lent c) (stream_answer t) (refl, refl))
     in
     rw (back t (push_coded header_width body_limit st buffer c)) at h
 

@@ -26,7 +26,7 @@ pub extern "C" fn orizhgum_join_in<'a>(
     other_last: &'a [u64; Seat::PLACES],
 ) -> u32
     ensures joins_from_c { JoinsFromC (at_entry_mut count numbers from highest ended counts first last) (at_entry other_count other_numbers other_from other_highest other_ended other_counts other_first other_last) (join_replied result (at_end_mut count numbers from highest ended counts first last)) }
-    ensures other_last_value { at_end other_count other_numbers other_from other_highest other_ended other_counts other_first other_last ≡ at_entry other_count other_numbers other_from other_highest other_ended other_counts other_first other_last }
+    ensures other_stays { at_end other_count other_numbers other_from other_highest other_ended other_counts other_first other_last ≡ at_entry other_count other_numbers other_from other_highest other_ended other_counts other_first other_last }
 {
     orizhgum::joined::orizhgum_join_in(
         count,
