@@ -3,7 +3,7 @@
 
     python3 tools/respell.py
 
-Run once, at the top, on a tree that /opt/rattle/port/port.py has turned. It rewrites the .antt, .rt and .edit files below crates/ in place.
+Run once, at the top, on a tree that the kit's port/port.py has turned. It rewrites the .antt, .rt and .edit files below crates/ in place.
 Functions, exported names, types and strings keep their names: in a .rt file a name is respelled in ghost lines and clauses alone, and in
 comments only where it is in camel case.
 """
