@@ -1,10 +1,11 @@
 """Broken builds of the archive, each compared with the second program.
 
 What rt builds is proved, so that a wrong program of a lower crate, which breaks
-the promise that those above stand on, can't be built. The exports can: nothing
+the promise that those above stand on, can't be built. The exports can: no code
 stands on them. Each edit of crates/orizhgum_c/must-fail is applied to a copy of
-that crate from which the promises are taken, and `rt lib` makes the archive.
-A line for each edit says on which call the comparison differed first.
+that crate from which the promises are taken, with the laws over them, and
+`rt lib` makes the archive. A line for each edit says on which call the
+comparison differed first.
 
     python3 compare/broken.py [EDIT...]
 """
@@ -44,21 +45,28 @@ def edited(folder, edit):
 
 
 def unpromised(folder):
-    """Takes the promises from a crate's code, and what they alone import."""
+    """Takes the promises from a crate's code, what they alone import, and the laws over them; gives the code that is left."""
+    shutil.rmtree(folder / "proofs", ignore_errors=True)
     for path in folder.glob("src/*.rt"):
         lines = path.read_text().splitlines(keepends=True)
         path.write_text("".join(line for line in lines if not re.match(r" *ensures\b|ghost use\b", line)))
+    return {path.name: path.read_text() for path in folder.glob("src/*.rt")}
 
 
-def archive(scratch, edit):
-    """The archive with an edit, or as it is."""
+def sources_with(scratch, edit):
+    """Copies the sources, with an edit or as they are; gives the code of the exports."""
     sources = scratch / "sources"
     shutil.rmtree(sources, ignore_errors=True)
     shutil.copytree(TOP / "crates", sources / "crates", ignore=shutil.ignore_patterns("out"))
     shutil.copy(TOP / "crates.txt", sources)
     if edit:
         edited(sources / EXPORTS, edit)
-    unpromised(sources / EXPORTS)
+    return unpromised(sources / EXPORTS)
+
+
+def archive(scratch, edit):
+    """The archive of the copied sources."""
+    sources = scratch / "sources"
     ran = subprocess.run(["rt", "lib"], cwd=sources / EXPORTS, stdout=subprocess.PIPE, stderr=subprocess.STDOUT, text=True)
     if ran.returncode != 0:
         sys.exit(f"{ran.stdout}{edit or 'the crate as it is'}: rt builds no archive")
@@ -92,6 +100,12 @@ def main(wanted):
         for edit in [None, *sorted((TOP / EXPORTS / "must-fail").glob("*.edit"))]:
             label = edit.stem if edit else "as it is"
             if edit and wanted and label not in wanted:
+                continue
+            code = sources_with(scratch, edit)
+            if edit is None:
+                plain = code
+            elif code == plain:
+                print(f"{label}: changes a promise alone, which no archive has", flush=True)
                 continue
             archive(scratch, edit)
             print(f"{label}: {first_difference(scratch)}", flush=True)
