@@ -49,7 +49,7 @@ def unpromised(folder):
     shutil.rmtree(folder / "proofs", ignore_errors=True)
     for path in folder.glob("src/*.rt"):
         lines = path.read_text().splitlines(keepends=True)
-        path.write_text("".join(line for line in lines if not re.match(r" *ensures\b|ghost use\b", line)))
+        path.write_text("".join(line for line in lines if not re.match(r" *(?:requires|ensures)\b|ghost use\b", line)))
     return {path.name: path.read_text() for path in folder.glob("src/*.rt")}
 
 

@@ -2,11 +2,14 @@
 -- contract of its call does not allow. So what holds of every answer of a call holds of every answer of its export.
 -- A new export: a `use` of its module and of its call's here, one in proofs/Exported, and a line in each. (A statement of specs may not name the crate's proofs.)
 -- Assumes nothing.
-use Rattle.std.specs.Prelude.{ℕ, List}
+use Rattle.std.specs.Prelude.{ℕ, List, []}
 use contract.Lifetimes.{Lfts}
 use denote.Triple.Clauses.{AtExit}
 use borrow.Fn.Kind.{ParamKind, ResultKind}
-use borrow.Fn.Kinds.{Out, Dens, res_t, ended_of}
+use borrow.Fn.Kinds.{In, Out, Dens, res_t, ended_of}
+use borrow.Fn.Function.{S}
+use borrow.Fn.World.{World, Pr, ArgsD, ResD}
+use borrow.Fn.Picked.{KnownAs}
 use Rattle.orizhgum_c.proofs.arrivals.orizhgum_set_up as set_up
 use Rattle.orizhgum_c.proofs.arrivals.orizhgum_tick_in as tick_in
 use Rattle.orizhgum_c.proofs.arrivals.orizhgum_heard_in as heard_in
@@ -81,46 +84,53 @@ use Rattle.orizhgum.proofs.written.orizhgum_write_security_status.Reads as call_
 use Rattle.orizhgum.proofs.written.orizhgum_write_heartbeat.Reads as call_write_heartbeat
 
 -- C1: one export. `meets`: from every state that its `requires` allows it ends, does nothing undefined, and leaves what its `ensures` says.
--- `answers`: what it answers and leaves, its call's contract allows of the same arguments.
-pub record Export (statement : Type 1 → Type 2) (n : ℕ) (ps : List (ParamKind n)) (r : ResultKind n) (Learnt Allowed : Out n ps r) : Type 2 where
+-- `free`: it asks nothing of its arguments. `known`: whoever holds `meets` has what `Learnt` says. `answers`: what that is, its call's contract
+-- allows of the same arguments.
+pub record Export
+    (statement : Type 1 → Type 2) (n : ℕ) (ps : List (ParamKind n)) (r : ResultKind n) (Ghost : Type 0)
+    (requires : (κs : Lfts n) → ArgsD (S n ps r [] 0) κs → Ghost → (w : World) → Pr w)
+    (ensures : (κs : Lfts n) → ArgsD (S n ps r [] 0) κs → Ghost → ResD (S n ps r [] 0) κs → AtExit (ended_of n ps r) κs → (w : World) → Pr w)
+    (Asked : In n ps) (Learnt Allowed : Out n ps r) : Type 2 where
   pub meets : {M : Type 1} → statement M
+  pub free : (κs : Lfts n) (a : Dens κs ps) → Asked κs a
+  pub known : KnownAs n ps r Ghost requires ensures Asked Learnt
   pub answers : (κs : Lfts n) (a : Dens κs ps) (z : (res_t r κs).Denot) (e : AtExit (ended_of n ps r) κs) → Learnt κs a z e → Allowed κs a z e
 
 -- C1: all of them
 pub record Exports : Type 2 where
-  pub set_up : Export set_up.Statement.statement 1 set_up.Kinds.ps set_up.Kinds.r set_up.Reads.Learnt call_set_up.Learnt
-  pub tick_in : Export tick_in.Statement.statement 6 tick_in.Kinds.ps tick_in.Kinds.r tick_in.Reads.Learnt call_tick_in.Learnt
-  pub heard_in : Export heard_in.Statement.statement 6 heard_in.Kinds.ps heard_in.Kinds.r heard_in.Reads.Learnt call_heard_in.Learnt
-  pub entry : Export entry.Statement.statement 1 entry.Kinds.ps entry.Kinds.r entry.Reads.Learnt call_entry.Learnt
-  pub entry_price : Export entry_price.Statement.statement 2 entry_price.Kinds.ps entry_price.Kinds.r entry_price.Reads.Learnt call_entry_price.Learnt
-  pub quantity : Export quantity.Statement.statement 1 quantity.Kinds.ps quantity.Kinds.r quantity.Reads.Learnt call_quantity.Learnt
-  pub cursor : Export cursor.Statement.statement 1 cursor.Kinds.ps cursor.Kinds.r cursor.Reads.Learnt call_cursor.Learnt
-  pub next : Export next.Statement.statement 2 next.Kinds.ps next.Kinds.r next.Reads.Learnt call_next.Learnt
-  pub step_price : Export step_price.Statement.statement 2 step_price.Kinds.ps step_price.Kinds.r step_price.Reads.Learnt call_step_price.Learnt
-  pub group : Export group.Statement.statement 1 group.Kinds.ps group.Kinds.r group.Reads.Learnt call_group.Learnt
-  pub join_in : Export join_in.Statement.statement 6 join_in.Kinds.ps join_in.Kinds.r join_in.Reads.Learnt call_join_in.Learnt
-  pub frame : Export frame.Statement.statement 1 frame.Kinds.ps frame.Kinds.r frame.Reads.Learnt call_frame.Learnt
-  pub judge : Export judge.Statement.statement 1 judge.Kinds.ps judge.Kinds.r judge.Reads.Learnt call_judge.Learnt
-  pub order : Export order.Statement.statement 1 order.Kinds.ps order.Kinds.r order.Reads.Learnt call_order.Learnt
-  pub trade : Export trade.Statement.statement 1 trade.Kinds.ps trade.Kinds.r trade.Reads.Learnt call_trade.Learnt
-  pub channel_heartbeat : Export channel_heartbeat.Statement.statement 1 channel_heartbeat.Kinds.ps channel_heartbeat.Kinds.r channel_heartbeat.Reads.Learnt call_channel_heartbeat.Learnt
-  pub resend : Export resend.Statement.statement 1 resend.Kinds.ps resend.Kinds.r resend.Reads.Learnt call_resend.Learnt
-  pub snapshot : Export snapshot.Statement.statement 1 snapshot.Kinds.ps snapshot.Kinds.r snapshot.Reads.Learnt call_snapshot.Learnt
-  pub index : Export index.Statement.statement 1 index.Kinds.ps index.Kinds.r index.Reads.Learnt call_index.Learnt
-  pub volume_index : Export volume_index.Statement.statement 1 volume_index.Kinds.ps volume_index.Kinds.r volume_index.Reads.Learnt call_volume_index.Learnt
-  pub statistics : Export statistics.Statement.statement 1 statistics.Kinds.ps statistics.Kinds.r statistics.Reads.Learnt call_statistics.Learnt
-  pub security_status : Export security_status.Statement.statement 1 security_status.Kinds.ps security_status.Kinds.r security_status.Reads.Learnt call_security_status.Learnt
-  pub request_in : Export request_in.Statement.statement 2 request_in.Kinds.ps request_in.Kinds.r request_in.Reads.Learnt call_request_in.Learnt
-  pub stream_new : Export stream_new.Statement.statement 0 stream_new.Kinds.ps stream_new.Kinds.r stream_new.Reads.Learnt call_stream_new.Learnt
-  pub stream_push : Export stream_push.Statement.statement 2 stream_push.Kinds.ps stream_push.Kinds.r stream_push.Reads.Learnt call_stream_push.Learnt
-  pub stream_end : Export stream_end.Statement.statement 1 stream_end.Kinds.ps stream_end.Kinds.r stream_end.Reads.Learnt call_stream_end.Learnt
-  pub write_order : Export write_order.Statement.statement 3 write_order.Kinds.ps write_order.Kinds.r write_order.Reads.Learnt call_write_order.Learnt
-  pub write_trade : Export write_trade.Statement.statement 3 write_trade.Kinds.ps write_trade.Kinds.r write_trade.Reads.Learnt call_write_trade.Learnt
-  pub write_channel_heartbeat : Export write_channel_heartbeat.Statement.statement 3 write_channel_heartbeat.Kinds.ps write_channel_heartbeat.Kinds.r write_channel_heartbeat.Reads.Learnt call_write_channel_heartbeat.Learnt
-  pub write_resend : Export write_resend.Statement.statement 3 write_resend.Kinds.ps write_resend.Kinds.r write_resend.Reads.Learnt call_write_resend.Learnt
-  pub write_snapshot : Export write_snapshot.Statement.statement 3 write_snapshot.Kinds.ps write_snapshot.Kinds.r write_snapshot.Reads.Learnt call_write_snapshot.Learnt
-  pub write_index : Export write_index.Statement.statement 3 write_index.Kinds.ps write_index.Kinds.r write_index.Reads.Learnt call_write_index.Learnt
-  pub write_volume_index : Export write_volume_index.Statement.statement 3 write_volume_index.Kinds.ps write_volume_index.Kinds.r write_volume_index.Reads.Learnt call_write_volume_index.Learnt
-  pub write_statistics : Export write_statistics.Statement.statement 3 write_statistics.Kinds.ps write_statistics.Kinds.r write_statistics.Reads.Learnt call_write_statistics.Learnt
-  pub write_security_status : Export write_security_status.Statement.statement 3 write_security_status.Kinds.ps write_security_status.Kinds.r write_security_status.Reads.Learnt call_write_security_status.Learnt
-  pub write_heartbeat : Export write_heartbeat.Statement.statement 3 write_heartbeat.Kinds.ps write_heartbeat.Kinds.r write_heartbeat.Reads.Learnt call_write_heartbeat.Learnt
+  pub set_up : Export set_up.Statement.statement 1 set_up.Kinds.ps set_up.Kinds.r set_up.Reads.Ghost set_up.Reads.requires set_up.Reads.ensures set_up.Reads.Asked set_up.Reads.Learnt call_set_up.Learnt
+  pub tick_in : Export tick_in.Statement.statement 6 tick_in.Kinds.ps tick_in.Kinds.r tick_in.Reads.Ghost tick_in.Reads.requires tick_in.Reads.ensures tick_in.Reads.Asked tick_in.Reads.Learnt call_tick_in.Learnt
+  pub heard_in : Export heard_in.Statement.statement 6 heard_in.Kinds.ps heard_in.Kinds.r heard_in.Reads.Ghost heard_in.Reads.requires heard_in.Reads.ensures heard_in.Reads.Asked heard_in.Reads.Learnt call_heard_in.Learnt
+  pub entry : Export entry.Statement.statement 1 entry.Kinds.ps entry.Kinds.r entry.Reads.Ghost entry.Reads.requires entry.Reads.ensures entry.Reads.Asked entry.Reads.Learnt call_entry.Learnt
+  pub entry_price : Export entry_price.Statement.statement 2 entry_price.Kinds.ps entry_price.Kinds.r entry_price.Reads.Ghost entry_price.Reads.requires entry_price.Reads.ensures entry_price.Reads.Asked entry_price.Reads.Learnt call_entry_price.Learnt
+  pub quantity : Export quantity.Statement.statement 1 quantity.Kinds.ps quantity.Kinds.r quantity.Reads.Ghost quantity.Reads.requires quantity.Reads.ensures quantity.Reads.Asked quantity.Reads.Learnt call_quantity.Learnt
+  pub cursor : Export cursor.Statement.statement 1 cursor.Kinds.ps cursor.Kinds.r cursor.Reads.Ghost cursor.Reads.requires cursor.Reads.ensures cursor.Reads.Asked cursor.Reads.Learnt call_cursor.Learnt
+  pub next : Export next.Statement.statement 2 next.Kinds.ps next.Kinds.r next.Reads.Ghost next.Reads.requires next.Reads.ensures next.Reads.Asked next.Reads.Learnt call_next.Learnt
+  pub step_price : Export step_price.Statement.statement 2 step_price.Kinds.ps step_price.Kinds.r step_price.Reads.Ghost step_price.Reads.requires step_price.Reads.ensures step_price.Reads.Asked step_price.Reads.Learnt call_step_price.Learnt
+  pub group : Export group.Statement.statement 1 group.Kinds.ps group.Kinds.r group.Reads.Ghost group.Reads.requires group.Reads.ensures group.Reads.Asked group.Reads.Learnt call_group.Learnt
+  pub join_in : Export join_in.Statement.statement 6 join_in.Kinds.ps join_in.Kinds.r join_in.Reads.Ghost join_in.Reads.requires join_in.Reads.ensures join_in.Reads.Asked join_in.Reads.Learnt call_join_in.Learnt
+  pub frame : Export frame.Statement.statement 1 frame.Kinds.ps frame.Kinds.r frame.Reads.Ghost frame.Reads.requires frame.Reads.ensures frame.Reads.Asked frame.Reads.Learnt call_frame.Learnt
+  pub judge : Export judge.Statement.statement 1 judge.Kinds.ps judge.Kinds.r judge.Reads.Ghost judge.Reads.requires judge.Reads.ensures judge.Reads.Asked judge.Reads.Learnt call_judge.Learnt
+  pub order : Export order.Statement.statement 1 order.Kinds.ps order.Kinds.r order.Reads.Ghost order.Reads.requires order.Reads.ensures order.Reads.Asked order.Reads.Learnt call_order.Learnt
+  pub trade : Export trade.Statement.statement 1 trade.Kinds.ps trade.Kinds.r trade.Reads.Ghost trade.Reads.requires trade.Reads.ensures trade.Reads.Asked trade.Reads.Learnt call_trade.Learnt
+  pub channel_heartbeat : Export channel_heartbeat.Statement.statement 1 channel_heartbeat.Kinds.ps channel_heartbeat.Kinds.r channel_heartbeat.Reads.Ghost channel_heartbeat.Reads.requires channel_heartbeat.Reads.ensures channel_heartbeat.Reads.Asked channel_heartbeat.Reads.Learnt call_channel_heartbeat.Learnt
+  pub resend : Export resend.Statement.statement 1 resend.Kinds.ps resend.Kinds.r resend.Reads.Ghost resend.Reads.requires resend.Reads.ensures resend.Reads.Asked resend.Reads.Learnt call_resend.Learnt
+  pub snapshot : Export snapshot.Statement.statement 1 snapshot.Kinds.ps snapshot.Kinds.r snapshot.Reads.Ghost snapshot.Reads.requires snapshot.Reads.ensures snapshot.Reads.Asked snapshot.Reads.Learnt call_snapshot.Learnt
+  pub index : Export index.Statement.statement 1 index.Kinds.ps index.Kinds.r index.Reads.Ghost index.Reads.requires index.Reads.ensures index.Reads.Asked index.Reads.Learnt call_index.Learnt
+  pub volume_index : Export volume_index.Statement.statement 1 volume_index.Kinds.ps volume_index.Kinds.r volume_index.Reads.Ghost volume_index.Reads.requires volume_index.Reads.ensures volume_index.Reads.Asked volume_index.Reads.Learnt call_volume_index.Learnt
+  pub statistics : Export statistics.Statement.statement 1 statistics.Kinds.ps statistics.Kinds.r statistics.Reads.Ghost statistics.Reads.requires statistics.Reads.ensures statistics.Reads.Asked statistics.Reads.Learnt call_statistics.Learnt
+  pub security_status : Export security_status.Statement.statement 1 security_status.Kinds.ps security_status.Kinds.r security_status.Reads.Ghost security_status.Reads.requires security_status.Reads.ensures security_status.Reads.Asked security_status.Reads.Learnt call_security_status.Learnt
+  pub request_in : Export request_in.Statement.statement 2 request_in.Kinds.ps request_in.Kinds.r request_in.Reads.Ghost request_in.Reads.requires request_in.Reads.ensures request_in.Reads.Asked request_in.Reads.Learnt call_request_in.Learnt
+  pub stream_new : Export stream_new.Statement.statement 0 stream_new.Kinds.ps stream_new.Kinds.r stream_new.Reads.Ghost stream_new.Reads.requires stream_new.Reads.ensures stream_new.Reads.Asked stream_new.Reads.Learnt call_stream_new.Learnt
+  pub stream_push : Export stream_push.Statement.statement 2 stream_push.Kinds.ps stream_push.Kinds.r stream_push.Reads.Ghost stream_push.Reads.requires stream_push.Reads.ensures stream_push.Reads.Asked stream_push.Reads.Learnt call_stream_push.Learnt
+  pub stream_end : Export stream_end.Statement.statement 1 stream_end.Kinds.ps stream_end.Kinds.r stream_end.Reads.Ghost stream_end.Reads.requires stream_end.Reads.ensures stream_end.Reads.Asked stream_end.Reads.Learnt call_stream_end.Learnt
+  pub write_order : Export write_order.Statement.statement 3 write_order.Kinds.ps write_order.Kinds.r write_order.Reads.Ghost write_order.Reads.requires write_order.Reads.ensures write_order.Reads.Asked write_order.Reads.Learnt call_write_order.Learnt
+  pub write_trade : Export write_trade.Statement.statement 3 write_trade.Kinds.ps write_trade.Kinds.r write_trade.Reads.Ghost write_trade.Reads.requires write_trade.Reads.ensures write_trade.Reads.Asked write_trade.Reads.Learnt call_write_trade.Learnt
+  pub write_channel_heartbeat : Export write_channel_heartbeat.Statement.statement 3 write_channel_heartbeat.Kinds.ps write_channel_heartbeat.Kinds.r write_channel_heartbeat.Reads.Ghost write_channel_heartbeat.Reads.requires write_channel_heartbeat.Reads.ensures write_channel_heartbeat.Reads.Asked write_channel_heartbeat.Reads.Learnt call_write_channel_heartbeat.Learnt
+  pub write_resend : Export write_resend.Statement.statement 3 write_resend.Kinds.ps write_resend.Kinds.r write_resend.Reads.Ghost write_resend.Reads.requires write_resend.Reads.ensures write_resend.Reads.Asked write_resend.Reads.Learnt call_write_resend.Learnt
+  pub write_snapshot : Export write_snapshot.Statement.statement 3 write_snapshot.Kinds.ps write_snapshot.Kinds.r write_snapshot.Reads.Ghost write_snapshot.Reads.requires write_snapshot.Reads.ensures write_snapshot.Reads.Asked write_snapshot.Reads.Learnt call_write_snapshot.Learnt
+  pub write_index : Export write_index.Statement.statement 3 write_index.Kinds.ps write_index.Kinds.r write_index.Reads.Ghost write_index.Reads.requires write_index.Reads.ensures write_index.Reads.Asked write_index.Reads.Learnt call_write_index.Learnt
+  pub write_volume_index : Export write_volume_index.Statement.statement 3 write_volume_index.Kinds.ps write_volume_index.Kinds.r write_volume_index.Reads.Ghost write_volume_index.Reads.requires write_volume_index.Reads.ensures write_volume_index.Reads.Asked write_volume_index.Reads.Learnt call_write_volume_index.Learnt
+  pub write_statistics : Export write_statistics.Statement.statement 3 write_statistics.Kinds.ps write_statistics.Kinds.r write_statistics.Reads.Ghost write_statistics.Reads.requires write_statistics.Reads.ensures write_statistics.Reads.Asked write_statistics.Reads.Learnt call_write_statistics.Learnt
+  pub write_security_status : Export write_security_status.Statement.statement 3 write_security_status.Kinds.ps write_security_status.Kinds.r write_security_status.Reads.Ghost write_security_status.Reads.requires write_security_status.Reads.ensures write_security_status.Reads.Asked write_security_status.Reads.Learnt call_write_security_status.Learnt
+  pub write_heartbeat : Export write_heartbeat.Statement.statement 3 write_heartbeat.Kinds.ps write_heartbeat.Kinds.r write_heartbeat.Reads.Ghost write_heartbeat.Reads.requires write_heartbeat.Reads.ensures write_heartbeat.Reads.Asked write_heartbeat.Reads.Learnt call_write_heartbeat.Learnt
