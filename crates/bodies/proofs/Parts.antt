@@ -15,19 +15,13 @@ use Rattle.bodies.specs.Body.{text_size, stated, numbers_in}
 use Rattle.bodies.specs.Parts.{verdict_of}
 
 -- a type without groups
-pub none-even : (gs : List ℕ) → length gs ≡ 0 → accepted tt ≡ judge_all no_group gs 0
+pub none_even : (gs : List ℕ) → length gs ≡ 0 → accepted tt ≡ judge_all no_group gs 0
 unfolding judge_all even fit group_offset group_ranges guard
-none-even gs h = rw h
+none_even gs h = rw h
 
 pub none_odd : (gs : List ℕ) → (length gs ≡ 0 → ⊥) → refused not_its_layout [] ≡ judge_all no_group gs 0
 unfolding judge_all even fit group_offset group_ranges guard
 none_odd gs h = rw (ne_eqb 0 (length gs) (λ e. h (sym e)))
-
--- a type without numbers
-pub no_numbers : (a : Answer Unit) → a ≡ also true a
-unfolding guard
-no_numbers (accepted u) = refl
-no_numbers (refused n vs) = refl
 
 -- a verdict on the groups, and one on the fixed fields
 both : (e r g : Bool) → also r (verdict e g) ≡ verdict e (r && g)

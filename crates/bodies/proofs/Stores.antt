@@ -17,7 +17,7 @@ use mir.Facts.{to_z-of_z}
 use Rattle.wire.specs.Bytes.{digits, splice, put_at}
 use Rattle.wire.proofs.PutAt.{put_fits, length-splice, splice-more}
 use Rattle.layout.specs.Kind.{Kind, text, Text, Form, unsigned, signed, written, form, width, characters}
-use Rattle.layout.specs.Layout.{Message, snapshot, index, volume_index, fields, size, texts_behind}
+use Rattle.layout.specs.Layout.{Message, fields, size, texts_behind}
 use Rattle.bodies.specs.Body.{numbers_behind, field_bytes, encode, text_width, text_size}
 use Rattle.bodies.specs.Parts.{put_fields}
 use Rattle.bodies.proofs.Round.{length_field, length-encode, length-behind}
@@ -129,12 +129,26 @@ words us {ks} {zs} {ts} {p} {y} {x} {z} {n} e r =
           ∙ ap (splice y n) f;
     }
 
--- all the texts that there are
+-- by the bytes that are copied
+pub words_as :
+    (us : List Text) {ks : List Kind} {zs : List ℤ} {ts bs : List ℕ} {p : ℕ} {y x z : List ℕ} {n : ℕ} → bs ≡ take (wide us) (drop p ts) →
+    x ≡ put_at y n bs → Stored ks zs ts (p + wide us) x z (n + wide us) → Stored (texts_then us ks) zs ts p y z n
+words_as us {y = y} {n = n} i e r = words us (e ∙ ap (put_at y n) i) r
+
+-- all the texts that are left
+pub words_left :
+    (us : List Text) {ks : List Kind} {zs : List ℤ} {ts bs : List ℕ} {p : ℕ} {y x z : List ℕ} {n : ℕ} → bs ≡ drop p ts →
+    length ts ≡ p + wide us → x ≡ put_at y n bs → Stored ks zs ts (p + wide us) x z (n + wide us) →
+    Stored (texts_then us ks) zs ts p y z n
+words_left us {ts = ts} {p = p} i h e r =
+    let l : length (drop p ts) ≤ wide us = rw length-drop (omega (arith, h)) in
+    words_as us (i ∙ sym (take_all (wide us) (drop p ts) l)) e r
+
+-- all of them
 pub all_words :
     (us : List Text) {ks : List Kind} {zs : List ℤ} {ts y x z : List ℕ} {n : ℕ} → length ts ≡ wide us → x ≡ put_at y n ts →
     Stored ks zs ts (0 + wide us) x z (n + wide us) → Stored (texts_then us ks) zs ts 0 y z n
-all_words us {ks} {zs} {ts} {y} {x} {z} {n} h e r =
-    words us (e ∙ ap (put_at y n) (sym (take_all (wide us) ts (omega arith)))) r
+all_words us h e r = words_left us refl (omega (arith, h)) e r
 
 -- ---- an output for the fields alone
 
@@ -152,12 +166,12 @@ module _ (m : Message) (zs : List ℤ) (ts out : List ℕ) where
   fits t h = rw (eq-eqb (length ts) (text_size (fields m)) t, eq-eqb (length out) (size (fields m)) h)
 
   -- fields that fill it
-  pub filled : {z : List ℕ} → length ts ≡ text_size (fields m) → length out ≡ size (fields m) → Stored (fields m) zs ts 0 out z 0 → z ≡ put_fields m zs ts out
+  pub stored : {z : List ℕ} → length ts ≡ text_size (fields m) → length out ≡ size (fields m) → Stored (fields m) zs ts 0 out z 0 → z ≡ encode (fields m) zs ts
   unfolding splice
-  filled t h r =
+  stored t h r =
       let n : length (encode (fields m) zs ts) ≡ size (fields m) = length-encode (fields m) zs ts t in
       let e : splice out 0 (encode (fields m) zs ts) ≡ encode (fields m) zs ts = rw (n, drop_of_length-le out {i = 0 + size (fields m)} (omega arith), append-nil) in
-      r.is (omega arith) t ∙ e ∙ sym (fits t h)
+      r.is (omega arith) t ∙ e
 
   stored_by : (a b : Bool) → eqb (length ts) (text_size (fields m)) ≡ a → eqb (length out) (size (fields m)) ≡ b → length (put_fields m zs ts out) ≡ length out
   stored_by true true p q =
@@ -170,12 +184,3 @@ module _ (m : Message) (zs : List ℤ) (ts out : List ℕ) where
   -- it keeps its length
   pub length_stored : length (put_fields m zs ts out) ≡ length out
   length_stored = stored_by (eqb (length ts) (text_size (fields m))) (eqb (length out) (size (fields m))) refl refl
-
--- an index is stored as a snapshot is, and a stock number as a count is
-pub index_stored : (zs : List ℤ) (ts out : List ℕ) → put_fields snapshot zs ts out ≡ put_fields index zs ts out
-unfolding put_fields
-index_stored zs ts out = refl
-
-pub volume_index_stored : (zs : List ℤ) (ts out : List ℕ) → put_fields snapshot zs ts out ≡ put_fields volume_index zs ts out
-unfolding put_fields size text_size encode
-volume_index_stored zs ts out = refl

@@ -1,45 +1,34 @@
 // 390095, channel heartbeat; it has no texts.
-ghost use Rattle.std.specs.Prelude.{◌≡◌};
-ghost use Rattle.layout.specs.Layout.{fields};
-ghost use Rattle.layout.specs.Layout as of;
-ghost use Rattle.layout.specs.Paper.{means_verdict};
-ghost use Rattle.record.specs.declared.Record.TheVariants as variant;
-ghost use Rattle.bodies.specs.Body.{numbers_in};
-ghost use Rattle.bodies.specs.Parts.{numbers_of, verdict_of, put_fields};
+ghost use Rattle.std.specs.Prelude.{refl};
+ghost use Rattle.layout.specs.declared.channel_heartbeat.TheConstants as constants;
+ghost use Rattle.bodies.specs.Body.{text_size};
 
+use crate::Body;
 use crate::groups::none;
-use layout::{Refusal, Verdict, channel_heartbeat, natural_in_range, yes_no_in_range};
+use layout::{Refusal, channel_heartbeat, natural_in_range, yes_no_in_range};
 use record::ChannelHeartbeat;
-use wire::unsigned;
+use wire::{Number, unsigned};
 
-// Whether its numbers are in range.
-fn in_range(r: ChannelHeartbeat) -> bool
-    ensures { result ≡ numbers_in (fields of.channel_heartbeat) (numbers_of (variant.ChannelHeartbeat r)) }
-{
-    natural_in_range(unsigned(r.last_number)) & yes_no_in_range(r.end)
-}
+impl Body for ChannelHeartbeat {
+    ghost TEXTS_SIZE = { constants.TEXTS_SIZE };
 
-// 4 for texts or groups that aren't exactly its own, then 5 for a number out of range.
-pub fn channel_heartbeat_verdict(r: ChannelHeartbeat, texts: &[u8], groups: &[u8]) -> Verdict
-    ensures { means_verdict result ≡ verdict_of of.channel_heartbeat (numbers_of (variant.ChannelHeartbeat r)) texts.now groups.now }
-{
-    if texts.len() != channel_heartbeat::TEXTS_SIZE {
-        return Verdict::Refused(Refusal::NotItsLayout);
-    }
-    none(groups).also(in_range(r))
-}
+    const TEXTS_SIZE: usize = channel_heartbeat::TEXTS_SIZE;
 
-// Its fields, one behind the other, where texts and output have just their lengths.
-pub fn put_channel_heartbeat(r: ChannelHeartbeat, texts: &[u8], out: &mut [u8])
-    ensures { out.new ≡ put_fields of.channel_heartbeat (numbers_of (variant.ChannelHeartbeat r)) texts.now out.old }
-{
-    if texts.len() != channel_heartbeat::TEXTS_SIZE {
-        return;
+    fn numbers_in_range(self) -> bool {
+        natural_in_range(unsigned(self.last_number)) & yes_no_in_range(self.end)
     }
-    if out.len() != channel_heartbeat::SIZE {
-        return;
+
+    fn judge_groups(self, groups: &[u8]) -> Result<(), Refusal> {
+        none(groups)
     }
-    wire::put2(out, channel_heartbeat::CHANNEL, r.channel);
-    wire::put_i64(out, channel_heartbeat::LAST_NUMBER, r.last_number);
-    wire::put2(out, channel_heartbeat::END, r.end);
+
+    fn store(self, texts: &[u8], out: &mut [u8]) {
+        self.channel.put(out, channel_heartbeat::CHANNEL);
+        self.last_number.put(out, channel_heartbeat::LAST_NUMBER);
+        self.end.put(out, channel_heartbeat::END);
+    }
+
+    ghost record_is = { λ x. refl };
+
+    ghost texts_size_is = { unfold text_size in refl };
 }

@@ -3,14 +3,15 @@ ghost use Rattle.std.specs.Prelude.{◌≡◌};
 ghost use Rattle.layout.specs.Group.{no_group, judge_all};
 ghost use Rattle.layout.specs.Paper.{means_verdict};
 
-use layout::{Refusal, Verdict};
+use layout::Refusal;
 
-pub(crate) fn none(groups: &[u8]) -> Verdict
+#[tactic(auto, using(crate::proofs::Parts::none_even, crate::proofs::Parts::none_odd))]
+pub(crate) fn none(groups: &[u8]) -> Result<(), Refusal>
     ensures { means_verdict result ≡ judge_all no_group groups.now 0 }
 {
-    if groups.len() == 0 {
-        Verdict::Accepted
+    if groups.is_empty() {
+        Ok(())
     } else {
-        Verdict::Refused(Refusal::NotItsLayout)
+        Err(Refusal::NotItsLayout)
     }
 }

@@ -1,19 +1,30 @@
 // 3, heartbeat; it has neither fields nor texts.
-ghost use Rattle.std.specs.Prelude.{◌≡◌};
-ghost use Rattle.layout.specs.Layout as of;
-ghost use Rattle.layout.specs.Paper.{means_verdict};
-ghost use Rattle.record.specs.declared.Record.TheVariants as variant;
-ghost use Rattle.bodies.specs.Parts.{numbers_of, verdict_of};
+ghost use Rattle.std.specs.Prelude.{refl};
+ghost use Rattle.layout.specs.declared.heartbeat.TheConstants as constants;
+ghost use Rattle.bodies.specs.Body.{text_size};
 
+use crate::Body;
 use crate::groups::none;
-use layout::{Refusal, Verdict, heartbeat};
+use layout::{Refusal, heartbeat};
+use record::Heartbeat;
 
-// 4 for texts or groups: it has none.
-pub fn heartbeat_verdict(texts: &[u8], groups: &[u8]) -> Verdict
-    ensures { means_verdict result ≡ verdict_of of.heartbeat (numbers_of variant.Heartbeat) texts.now groups.now }
-{
-    if texts.len() != heartbeat::TEXTS_SIZE {
-        return Verdict::Refused(Refusal::NotItsLayout);
+impl Body for Heartbeat {
+    ghost TEXTS_SIZE = { constants.TEXTS_SIZE };
+
+    const TEXTS_SIZE: usize = heartbeat::TEXTS_SIZE;
+
+    #[tactic(auto, unfolding(crate::specs::Body::numbers_in))]
+    fn numbers_in_range(self) -> bool {
+        true
     }
-    none(groups)
+
+    fn judge_groups(self, groups: &[u8]) -> Result<(), Refusal> {
+        none(groups)
+    }
+
+    fn store(self, _texts: &[u8], _out: &mut [u8]) {}
+
+    ghost record_is = { λ x. refl };
+
+    ghost texts_size_is = { unfold text_size in refl };
 }

@@ -1,20 +1,31 @@
 // 309011, index; its texts are stream, security, source and phase.
-ghost use Rattle.std.specs.Prelude.{◌≡◌};
-ghost use Rattle.layout.specs.Layout as of;
-ghost use Rattle.layout.specs.Paper.{means_verdict};
-ghost use Rattle.record.specs.declared.Record.TheVariants as variant;
-ghost use Rattle.bodies.specs.Parts.{numbers_of, verdict_of};
+ghost use Rattle.std.specs.Prelude.{refl};
+ghost use Rattle.layout.specs.declared.index.TheConstants as constants;
+ghost use Rattle.bodies.specs.Body.{text_size};
 
-use crate::common::in_range;
-use layout::{Groups, Refusal, Verdict, index, judge_all};
+use crate::{Body, common};
+use layout::{Groups, Refusal, index, judge_all};
 use record::Index;
 
-// 4 for texts or groups that aren't exactly its own, then 5 for a number out of range.
-pub fn index_verdict(r: Index, texts: &[u8], groups: &[u8]) -> Verdict
-    ensures { means_verdict result ≡ verdict_of of.index (numbers_of (variant.Index r)) texts.now groups.now }
-{
-    if texts.len() != index::TEXTS_SIZE {
-        return Verdict::Refused(Refusal::NotItsLayout);
+impl Body for Index {
+    ghost TEXTS_SIZE = { constants.TEXTS_SIZE };
+
+    const TEXTS_SIZE: usize = index::TEXTS_SIZE;
+
+    #[tactic(auto, using(crate::proofs::Tests::index_in))]
+    fn numbers_in_range(self) -> bool {
+        common::in_range(self.common)
     }
-    judge_all(Groups::IndexEntries, groups, r.count).also(in_range(r.common))
+
+    fn judge_groups(self, groups: &[u8]) -> Result<(), Refusal> {
+        judge_all(Groups::IndexEntries, groups, self.count)
+    }
+
+    fn store(self, texts: &[u8], out: &mut [u8]) {
+        common::store(self.common, self.count, texts, out);
+    }
+
+    ghost record_is = { λ x. refl };
+
+    ghost texts_size_is = { unfold text_size in refl };
 }

@@ -1,57 +1,43 @@
 // 390094, resend; its texts are news id and reject text.
-ghost use Rattle.std.specs.Prelude.{◌≡◌};
-ghost use Rattle.layout.specs.Layout.{fields};
-ghost use Rattle.layout.specs.Layout as of;
-ghost use Rattle.layout.specs.Paper.{means_verdict};
-ghost use Rattle.record.specs.declared.Record.TheVariants as variant;
-ghost use Rattle.bodies.specs.Body.{numbers_in};
-ghost use Rattle.bodies.specs.Parts.{numbers_of, verdict_of, put_fields};
+ghost use Rattle.std.specs.Prelude.{refl};
+ghost use Rattle.layout.specs.declared.resend.TheConstants as constants;
+ghost use Rattle.bodies.specs.Body.{text_size};
 
+use crate::Body;
 use crate::groups::none;
-use layout::{
-    Refusal, Verdict, natural_in_range, resend, resend_type_in_range, status_in_range, width,
-};
+use layout::{Refusal, natural_in_range, resend, resend_type_in_range, status_in_range, width};
 use record::Resend;
-use wire::unsigned;
+use wire::{Number, unsigned};
 
-// Whether its numbers are in range.
-fn in_range(r: Resend) -> bool
-    ensures { result ≡ numbers_in (fields of.resend) (numbers_of (variant.Resend r)) }
-{
-    resend_type_in_range(r.resend_type)
-        & (natural_in_range(unsigned(r.first_number))
-            & (natural_in_range(unsigned(r.last_number)) & status_in_range(r.status)))
-}
+impl Body for Resend {
+    ghost TEXTS_SIZE = { constants.TEXTS_SIZE };
 
-// 4 for texts or groups that aren't exactly its own, then 5 for a number out of range.
-pub fn resend_verdict(r: Resend, texts: &[u8], groups: &[u8]) -> Verdict
-    ensures { means_verdict result ≡ verdict_of of.resend (numbers_of (variant.Resend r)) texts.now groups.now }
-{
-    if texts.len() != resend::TEXTS_SIZE {
-        return Verdict::Refused(Refusal::NotItsLayout);
-    }
-    none(groups).also(in_range(r))
-}
+    const TEXTS_SIZE: usize = resend::TEXTS_SIZE;
 
-// Its fields, one behind the other, where texts and output have just their lengths.
-pub fn put_resend(r: Resend, texts: &[u8], out: &mut [u8])
-    ensures { out.new ≡ put_fields of.resend (numbers_of (variant.Resend r)) texts.now out.old }
-{
-    if texts.len() != resend::TEXTS_SIZE {
-        return;
+    fn numbers_in_range(self) -> bool {
+        resend_type_in_range(self.resend_type)
+            & (natural_in_range(unsigned(self.first_number))
+                & (natural_in_range(unsigned(self.last_number)) & status_in_range(self.status)))
     }
-    if out.len() != resend::SIZE {
-        return;
+
+    fn judge_groups(self, groups: &[u8]) -> Result<(), Refusal> {
+        none(groups)
     }
-    wire::put1(out, resend::RESEND_TYPE, r.resend_type);
-    wire::put2(out, resend::CHANNEL, r.channel);
-    wire::put_i64(out, resend::FIRST_NUMBER, r.first_number);
-    wire::put_i64(out, resend::LAST_NUMBER, r.last_number);
-    wire::copy(out, resend::NEWS_ID, &texts[0..width::NEWS_ID]);
-    wire::put1(out, resend::STATUS, r.status);
-    wire::copy(
-        out,
-        resend::REJECT_TEXT,
-        &texts[width::NEWS_ID..resend::TEXTS_SIZE],
-    );
+
+    fn store(self, texts: &[u8], out: &mut [u8]) {
+        let Some((news_id, reject_text)) = texts.split_at_checked(width::NEWS_ID) else {
+            return;
+        };
+        self.resend_type.put(out, resend::RESEND_TYPE);
+        self.channel.put(out, resend::CHANNEL);
+        self.first_number.put(out, resend::FIRST_NUMBER);
+        self.last_number.put(out, resend::LAST_NUMBER);
+        wire::copy(out, resend::NEWS_ID, news_id);
+        self.status.put(out, resend::STATUS);
+        wire::copy(out, resend::REJECT_TEXT, reject_text);
+    }
+
+    ghost record_is = { λ x. refl };
+
+    ghost texts_size_is = { unfold text_size in refl };
 }

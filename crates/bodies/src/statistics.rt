@@ -1,44 +1,33 @@
 // 390090, statistics; it has no texts of its own.
-ghost use Rattle.std.specs.Prelude.{◌≡◌};
-ghost use Rattle.layout.specs.Layout.{fields};
-ghost use Rattle.layout.specs.Layout as of;
-ghost use Rattle.layout.specs.Paper.{means_verdict};
-ghost use Rattle.record.specs.declared.Record.TheVariants as variant;
-ghost use Rattle.bodies.specs.Body.{numbers_in};
-ghost use Rattle.bodies.specs.Parts.{numbers_of, verdict_of, put_fields};
+ghost use Rattle.std.specs.Prelude.{refl};
+ghost use Rattle.layout.specs.declared.statistics.TheConstants as constants;
+ghost use Rattle.bodies.specs.Body.{text_size};
 
-use layout::{Groups, Refusal, Verdict, judge_all, statistics, time_in_range};
+use crate::Body;
+use layout::{Groups, Refusal, judge_all, statistics, time_in_range};
 use record::Statistics;
-use wire::unsigned;
+use wire::{Number, unsigned};
 
-// Whether its numbers are in range.
-fn in_range(r: Statistics) -> bool
-    ensures { result ≡ numbers_in (fields of.statistics) (numbers_of (variant.Statistics r)) }
-{
-    time_in_range(unsigned(r.time))
-}
+impl Body for Statistics {
+    ghost TEXTS_SIZE = { constants.TEXTS_SIZE };
 
-// 4 for texts or groups that aren't exactly its own, then 5 for a number out of range.
-pub fn statistics_verdict(r: Statistics, texts: &[u8], groups: &[u8]) -> Verdict
-    ensures { means_verdict result ≡ verdict_of of.statistics (numbers_of (variant.Statistics r)) texts.now groups.now }
-{
-    if texts.len() != statistics::TEXTS_SIZE {
-        return Verdict::Refused(Refusal::NotItsLayout);
-    }
-    judge_all(Groups::Streams, groups, r.count).also(in_range(r))
-}
+    const TEXTS_SIZE: usize = statistics::TEXTS_SIZE;
 
-// Its fields, one behind the other, where texts and output have just their lengths.
-pub fn put_statistics(r: Statistics, texts: &[u8], out: &mut [u8])
-    ensures { out.new ≡ put_fields of.statistics (numbers_of (variant.Statistics r)) texts.now out.old }
-{
-    if texts.len() != statistics::TEXTS_SIZE {
-        return;
+    fn numbers_in_range(self) -> bool {
+        time_in_range(unsigned(self.time))
     }
-    if out.len() != statistics::SIZE {
-        return;
+
+    fn judge_groups(self, groups: &[u8]) -> Result<(), Refusal> {
+        judge_all(Groups::Streams, groups, self.count)
     }
-    wire::put_i64(out, statistics::TIME, r.time);
-    wire::put2(out, statistics::CHANNEL, r.channel);
-    wire::put4(out, statistics::COUNT, r.count);
+
+    fn store(self, texts: &[u8], out: &mut [u8]) {
+        self.time.put(out, statistics::TIME);
+        self.channel.put(out, statistics::CHANNEL);
+        self.count.put(out, statistics::COUNT);
+    }
+
+    ghost record_is = { λ x. refl };
+
+    ghost texts_size_is = { unfold text_size in refl };
 }

@@ -1,64 +1,53 @@
 // 300191, trade; its texts are stream, security and source.
-ghost use Rattle.std.specs.Prelude.{◌≡◌};
-ghost use Rattle.layout.specs.Layout.{fields};
-ghost use Rattle.layout.specs.Layout as of;
-ghost use Rattle.layout.specs.Paper.{means_verdict};
-ghost use Rattle.record.specs.declared.Record.TheVariants as variant;
-ghost use Rattle.bodies.specs.Body.{numbers_in};
-ghost use Rattle.bodies.specs.Parts.{numbers_of, verdict_of, put_fields};
+ghost use Rattle.std.specs.Prelude.{refl};
+ghost use Rattle.layout.specs.declared.trade.TheConstants as constants;
+ghost use Rattle.bodies.specs.Body.{text_size};
 
+use crate::Body;
 use crate::groups::none;
 use layout::{
-    Refusal, Verdict, execution_in_range, natural_in_range, number_in_range, price_in_range,
+    Refusal, execution_in_range, natural_in_range, number_in_range, price_in_range,
     quantity_in_range, time_in_range, trade, width,
 };
 use record::Trade;
-use wire::unsigned;
+use wire::{Number, unsigned};
 
-// Whether its numbers are in range.
-fn in_range(r: Trade) -> bool
-    ensures { result ≡ numbers_in (fields of.trade) (numbers_of (variant.Trade r)) }
-{
-    number_in_range(unsigned(r.number))
-        & (natural_in_range(unsigned(r.bid_number))
-            & (natural_in_range(unsigned(r.offer_number))
-                & (price_in_range(unsigned(r.trade_price))
-                    & (quantity_in_range(unsigned(r.quantity))
-                        & (execution_in_range(r.execution) & time_in_range(unsigned(r.time)))))))
-}
+impl Body for Trade {
+    ghost TEXTS_SIZE = { constants.TEXTS_SIZE };
 
-// 4 for texts or groups that aren't exactly its own, then 5 for a number out of range.
-pub fn trade_verdict(r: Trade, texts: &[u8], groups: &[u8]) -> Verdict
-    ensures { means_verdict result ≡ verdict_of of.trade (numbers_of (variant.Trade r)) texts.now groups.now }
-{
-    if texts.len() != trade::TEXTS_SIZE {
-        return Verdict::Refused(Refusal::NotItsLayout);
-    }
-    none(groups).also(in_range(r))
-}
+    const TEXTS_SIZE: usize = trade::TEXTS_SIZE;
 
-// Its fields, one behind the other, where texts and output have just their lengths.
-pub fn put_trade(r: Trade, texts: &[u8], out: &mut [u8])
-    ensures { out.new ≡ put_fields of.trade (numbers_of (variant.Trade r)) texts.now out.old }
-{
-    if texts.len() != trade::TEXTS_SIZE {
-        return;
+    fn numbers_in_range(self) -> bool {
+        number_in_range(unsigned(self.number))
+            & (natural_in_range(unsigned(self.bid_number))
+                & (natural_in_range(unsigned(self.offer_number))
+                    & (price_in_range(unsigned(self.trade_price))
+                        & (quantity_in_range(unsigned(self.quantity))
+                            & (execution_in_range(self.execution)
+                                & time_in_range(unsigned(self.time)))))))
     }
-    if out.len() != trade::SIZE {
-        return;
+
+    fn judge_groups(self, groups: &[u8]) -> Result<(), Refusal> {
+        none(groups)
     }
-    wire::put2(out, trade::CHANNEL, r.channel);
-    wire::put_i64(out, trade::NUMBER, r.number);
-    wire::copy(out, trade::STREAM, &texts[0..width::STREAM]);
-    wire::put_i64(out, trade::BID_NUMBER, r.bid_number);
-    wire::put_i64(out, trade::OFFER_NUMBER, r.offer_number);
-    wire::copy(
-        out,
-        trade::SECURITY,
-        &texts[width::STREAM..trade::TEXTS_SIZE],
-    );
-    wire::put_i64(out, trade::PRICE, r.trade_price);
-    wire::put_i64(out, trade::QUANTITY, r.quantity);
-    wire::put1(out, trade::EXECUTION, r.execution);
-    wire::put_i64(out, trade::TIME, r.time);
+
+    fn store(self, texts: &[u8], out: &mut [u8]) {
+        let Some((stream, security)) = texts.split_at_checked(width::STREAM) else {
+            return;
+        };
+        self.channel.put(out, trade::CHANNEL);
+        self.number.put(out, trade::NUMBER);
+        wire::copy(out, trade::STREAM, stream);
+        self.bid_number.put(out, trade::BID_NUMBER);
+        self.offer_number.put(out, trade::OFFER_NUMBER);
+        wire::copy(out, trade::SECURITY, security);
+        self.trade_price.put(out, trade::PRICE);
+        self.quantity.put(out, trade::QUANTITY);
+        self.execution.put(out, trade::EXECUTION);
+        self.time.put(out, trade::TIME);
+    }
+
+    ghost record_is = { λ x. refl };
+
+    ghost texts_size_is = { unfold text_size in refl };
 }

@@ -1,21 +1,33 @@
 // 309111, volume index; its texts are stream, security, source and phase.
-ghost use Rattle.std.specs.Prelude.{◌≡◌};
-ghost use Rattle.layout.specs.Layout as of;
-ghost use Rattle.layout.specs.Paper.{means_verdict};
-ghost use Rattle.record.specs.declared.Record.TheVariants as variant;
-ghost use Rattle.bodies.specs.Parts.{numbers_of, verdict_of};
+ghost use Rattle.std.specs.Prelude.{refl};
+ghost use Rattle.layout.specs.declared.volume_index.TheConstants as constants;
+ghost use Rattle.bodies.specs.Body.{text_size};
 
-use crate::common::in_range;
 use crate::groups::none;
-use layout::{Refusal, Verdict, volume_index};
+use crate::{Body, common};
+use layout::{Refusal, volume_index};
 use record::VolumeIndex;
 
-// 4 for texts or groups that aren't exactly its own, then 5 for a number out of range.
-pub fn volume_index_verdict(r: VolumeIndex, texts: &[u8], groups: &[u8]) -> Verdict
-    ensures { means_verdict result ≡ verdict_of of.volume_index (numbers_of (variant.VolumeIndex r)) texts.now groups.now }
-{
-    if texts.len() != volume_index::TEXTS_SIZE {
-        return Verdict::Refused(Refusal::NotItsLayout);
+impl Body for VolumeIndex {
+    ghost TEXTS_SIZE = { constants.TEXTS_SIZE };
+
+    const TEXTS_SIZE: usize = volume_index::TEXTS_SIZE;
+
+    #[tactic(auto, using(crate::proofs::Tests::volume_index_in))]
+    fn numbers_in_range(self) -> bool {
+        common::in_range(self.common)
     }
-    none(groups).also(in_range(r.common))
+
+    fn judge_groups(self, groups: &[u8]) -> Result<(), Refusal> {
+        none(groups)
+    }
+
+    #[tactic(auto, unfolding(layout::specs::Layout::size, crate::specs::Body::text_size, crate::specs::Body::encode))]
+    fn store(self, texts: &[u8], out: &mut [u8]) {
+        common::store(self.common, self.stock_number, texts, out);
+    }
+
+    ghost record_is = { λ x. refl };
+
+    ghost texts_size_is = { unfold text_size in refl };
 }

@@ -1,33 +1,15 @@
 // The decimals of the kinds that have some. The header's are held to these lines.
-fn line(lines: &mut [u8], at: usize, name: &[u8], number: usize) -> usize {
-    let a = text::word(lines, at, name);
-    let b = text::decimal(lines, a, number as u64);
-    text::word(lines, b, b"\n")
-}
+use crate::Lines;
+use layout::decimals;
+use std::fmt::Write;
 
-pub fn cases(lines: &mut [u8], at: usize) -> usize {
-    let a = line(
+pub fn cases(lines: &mut Lines) {
+    let _ = writeln!(lines, "decimals of a price: {}", decimals::price());
+    let _ = writeln!(
         lines,
-        at,
-        b"decimals of a price: ",
-        layout::decimals::price(),
+        "decimals of an entry price: {}",
+        decimals::entry_price()
     );
-    let b = line(
-        lines,
-        a,
-        b"decimals of an entry price: ",
-        layout::decimals::entry_price(),
-    );
-    let c = line(
-        lines,
-        b,
-        b"decimals of a quantity: ",
-        layout::decimals::quantity(),
-    );
-    line(
-        lines,
-        c,
-        b"decimals of an amount: ",
-        layout::decimals::amount(),
-    )
+    let _ = writeln!(lines, "decimals of a quantity: {}", decimals::quantity());
+    let _ = writeln!(lines, "decimals of an amount: {}", decimals::amount());
 }

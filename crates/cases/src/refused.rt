@@ -1,8 +1,8 @@
 // The writer's refusals, each with an output whose every byte is marked before.
-use crate::said;
+use crate::Lines;
 use crate::said::Said;
 use record::{Order, Record, SecurityStatus, Statistics};
-use writer::Written;
+use std::fmt::Write;
 
 const MARK: u8 = 0xaa;
 
@@ -52,97 +52,57 @@ fn status(count: u32) -> Record {
     })
 }
 
-// The cases, in the order of their names.
-fn case_at(i: u64) -> Case {
-    match i {
-        0 => with(Record::Unknown(390019), 0, 0, 128),
-        1 => with(order(1), 14, 0, 128),
-        2 => with(order(1), 16, 0, 128),
-        3 => with(order(1), 15, 1, 128),
-        4 => with(statistics(2), 0, 15, 128),
-        5 => with(statistics(0), 0, 15, 128),
-        6 => with(status(1), 20, 4, 128),
-        7 => with(order(0), 15, 0, 128),
-        8 => with(statistics(1092), 0, 16380, 62),
-        9 => with(order(1), 15, 0, 62),
-        _ => with(order(1), 15, 0, 63),
-    }
-}
-
-fn said(answer: Written) -> Said {
-    match answer {
-        Written::Whole(n) => said::written(n),
-        Written::Refused(why) => said::refused(why.number() as u64),
-    }
-}
-
-// The first n bytes; all where there are fewer.
-fn first(s: &[u8], n: usize) -> &[u8] {
-    if s.len() < n {
-        return s;
-    }
-    &s[0..n]
-}
-
 // Writes a case to the first bytes of an output. The texts are spaces; the first group, as a switch, has yes/no 2.
-fn tried(c: Case, out: &mut [u8]) -> Written {
-    let r = c.record;
+fn tried(c: Case, out: &mut [u8]) -> Result<usize, writer::Refusal> {
     let texts = [b' '; layout::TEXT_ROOM];
     let mut groups = [0u8; 16380];
     groups[3] = 2;
-    let room = c.room;
-    if out.len() < room {
-        return Written::Whole(0);
+    match out.get_mut(..c.room) {
+        Some(part) => writer::write(
+            c.record,
+            texts.get(..c.texts).unwrap_or(&texts),
+            groups.get(..c.groups).unwrap_or(&groups),
+            part,
+        ),
+        None => Ok(0),
     }
-    writer::write(
-        r,
-        first(&texts, c.texts),
-        first(&groups, c.groups),
-        &mut out[0..room],
-    )
 }
 
-// Whether every byte of an output is as it was marked.
-fn marked(out: &[u8]) -> bool {
-    let mut i: usize = 0;
-    while i < out.len() {
-        if out[i] != MARK {
-            return false;
-        }
-        i += 1;
+// Each case: its name, the answer, and whether the output stands.
+pub fn cases(lines: &mut Lines) {
+    let all = [
+        (
+            "unlisted type 390019",
+            with(Record::Unknown(390019), 0, 0, 128),
+        ),
+        ("order, texts one short", with(order(1), 14, 0, 128)),
+        ("order, texts one long", with(order(1), 16, 0, 128)),
+        ("order, a group", with(order(1), 15, 1, 128)),
+        (
+            "statistics, one group of two",
+            with(statistics(2), 0, 15, 128),
+        ),
+        (
+            "statistics, one group of none",
+            with(statistics(0), 0, 15, 128),
+        ),
+        ("security status, yes/no 2", with(status(1), 20, 4, 128)),
+        ("order, number 0", with(order(0), 15, 0, 128)),
+        (
+            "statistics, 1,092 groups, output short too",
+            with(statistics(1092), 0, 16380, 62),
+        ),
+        ("order, output of 62 bytes", with(order(1), 15, 0, 62)),
+        ("order, output of 63 bytes", with(order(1), 15, 0, 63)),
+    ];
+    for (name, case) in all {
+        let mut out = [MARK; 128];
+        let said = Said::from(tried(case, &mut out));
+        let stands = if out.iter().all(|b| *b == MARK) {
+            "as it stood"
+        } else {
+            "changed"
+        };
+        let _ = writeln!(lines, "{name}: {said}, output {stands}");
     }
-    true
-}
-
-// Case i: its name, the answer, and whether the output stands.
-fn line(lines: &mut [u8], at: usize, names: &[u8], i: u64) -> usize {
-    let mut out = [MARK; 128];
-    let answer = tried(case_at(i), &mut out);
-    let a = said::write(lines, at, names, i, said(answer));
-    if marked(&out) {
-        return text::word(lines, a, b", output as it stood\n");
-    }
-    text::word(lines, a, b", output changed\n")
-}
-
-pub fn cases(lines: &mut [u8], at: usize) -> usize {
-    let names = b"unlisted type 390019
-order, texts one short
-order, texts one long
-order, a group
-statistics, one group of two
-statistics, one group of none
-security status, yes/no 2
-order, number 0
-statistics, 1,092 groups, output short too
-order, output of 62 bytes
-order, output of 63 bytes
-";
-    let mut offset = at;
-    let mut i: u64 = 0;
-    while i < 11 {
-        offset = line(lines, offset, names, i);
-        i += 1;
-    }
-    offset
 }

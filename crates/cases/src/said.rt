@@ -1,74 +1,53 @@
-// The line of a case: its name, and what the call answered.
-ghost use Rattle.std.specs.Prelude.{◌≤◌, length};
+// What a line prints of a call's answer: a word, or "written" or "refused" and a number. Of three calls' answers, and no one's own.
+use std::fmt;
+use std::fmt::{Display, Formatter, Write};
+use tracker::{News, RequestRefusal};
 
-// What a call answered: a word of the table below, and the number behind "written" and "refused".
 #[derive(Clone, Copy)]
-pub struct Said {
-    pub word: u64,
-    pub number: u64,
+pub enum Said {
+    Word(&'static str),
+    Written(usize),
+    Refused(u32),
 }
 
-pub fn plain(word: u64) -> Said {
-    Said { word, number: 0 }
-}
-
-pub fn written(n: usize) -> Said {
-    Said {
-        word: 5,
-        number: n as u64,
-    }
-}
-
-pub fn refused(number: u64) -> Said {
-    Said { word: 6, number }
-}
-
-// Where the line ends that an offset of a table stands in.
-fn line_end(table: &[u8], from: usize) -> usize
-    requires { from ≤ length table.now }
-    ensures { (from ≤ result) × (result ≤ length table.now) }
-{
-    let mut i = from;
-    while i < table.len() {
-        if table[i] == b'\n' {
-            return i;
+impl Display for Said {
+    fn fmt<W: Write>(&self, f: &mut Formatter<W>) -> fmt::Result {
+        match self {
+            Said::Word(word) => write!(f, "{word}"),
+            Said::Written(n) => write!(f, "written {n}"),
+            Said::Refused(number) => write!(f, "refused {number}"),
         }
-        i += 1;
     }
-    i
 }
 
-// Line n of a table, from 0; the empty part where it has none.
-fn line_of(table: &[u8], n: u64) -> &[u8] {
-    let mut from: usize = 0;
-    let mut left = n;
-    while 0 < left {
-        let end = line_end(table, from);
-        if table.len() <= end {
-            return &table[0..0];
+impl From<Result<usize, writer::Refusal>> for Said {
+    fn from(answer: Result<usize, writer::Refusal>) -> Said {
+        match answer {
+            Ok(n) => Said::Written(n),
+            Err(why) => Said::Refused(u32::from(why)),
         }
-        from = end + 1;
-        left -= 1;
     }
-    let end = line_end(table, from);
-    &table[from..end]
 }
 
-// The name of case i, and the answer.
-pub fn write(lines: &mut [u8], at: usize, names: &[u8], i: u64, said: Said) -> usize {
-    let words = b": new
-: late
-: duplicate
-: heard
-: nothing missing
-: written 
-: refused 
-: before start
-";
-    let a = text::word(lines, at, line_of(names, i));
-    let b = text::word(lines, a, line_of(words, said.word));
-    if said.word < 5 {
-        return b;
+impl From<Result<News, tracker::Refusal>> for Said {
+    fn from(answer: Result<News, tracker::Refusal>) -> Said {
+        match answer {
+            Ok(News::New) => Said::Word("new"),
+            Ok(News::Late) => Said::Word("late"),
+            Ok(News::Duplicate) => Said::Word("duplicate"),
+            Ok(News::Heard) => Said::Word("heard"),
+            Ok(News::BeforeStart) => Said::Word("before start"),
+            Err(why) => Said::Refused(u32::from(why)),
+        }
     }
-    text::decimal(lines, b, said.number)
+}
+
+impl From<Result<Option<usize>, RequestRefusal>> for Said {
+    fn from(answer: Result<Option<usize>, RequestRefusal>) -> Said {
+        match answer {
+            Ok(Some(n)) => Said::Written(n),
+            Ok(None) => Said::Word("nothing missing"),
+            Err(why) => Said::Refused(u32::from(why)),
+        }
+    }
 }

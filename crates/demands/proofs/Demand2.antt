@@ -26,7 +26,7 @@ use Rattle.record.specs.Record.{Reading, known, unknown, read_as, read_listed, r
 use Rattle.record.proofs.Choice.{named_as}
 use Rattle.entries.specs.Paper.{means_cursor, means_step}
 use Rattle.entries.specs.declared.cursor.Cursor.{Cursor}
-use Rattle.entries.specs.declared.cursor.Step.{Step}
+use Rattle.entries.specs.Paper.{Step}
 use Rattle.entries.proofs.Steps.{on_from, step_after, step-is-entry}
 use Rattle.entries.specs.Entry.{Entry, At, Stepped, entry_at, start, step_in, step, entry_listed, entry_of, quantity_listed, quantity_of, entry_found}
 use Rattle.record.specs.Paper.{means_record, means_frame_reading}

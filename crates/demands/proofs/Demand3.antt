@@ -21,7 +21,7 @@ use Rattle.gaps.proofs.Exact.{Exact, forms}
 use Rattle.gaps.proofs.Alone as alone
 use Rattle.gaps.proofs.Alone.{Judged, judge, words, play, answers, history, exact, nine, says_before, says-new, says-late, says-duplicate, Never}
 use Rattle.tracker.specs.declared.Tracker.{Tracker}
-use Rattle.tracker.specs.declared.Start.TheVariants.{SetUp}
+use Rattle.std.specs.Prelude.{Ok}
 use Rattle.tracker.specs.declared.Reply.{Reply}
 use Rattle.tracker.specs.Places.{channel_at}
 use Rattle.seats.specs.Rules.{ascends, first_numbers, channels_listed}
@@ -323,7 +323,7 @@ pub every_set_up_gives : EverySetUpGives
 every_set_up_gives numbers from e =
     let x = set_up numbers from in
     let y : ready (accepted tt) x.tracker ≡ ready x.said x.tracker = rw e in
-    record { answer = record { verdict = SetUp; tracker = x.tracker }; promise = sets_up numbers from (record { verdict = SetUp; tracker = x.tracker }) y; ready = refl; gave = refl }
+    record { answer = record { verdict = Ok tt; tracker = x.tracker }; promise = sets_up numbers from (record { verdict = Ok tt; tracker = x.tracker }) y; ready = refl; gave = refl }
 
 -- the word that an arrival is answered is one of the code's
 pub answer-named : (t : Tracker) (a : Arrival) → arrival_said (named (arrive t a).said) ≡ (arrive t a).said

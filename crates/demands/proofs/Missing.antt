@@ -10,8 +10,8 @@ use Rattle.wire.specs.Number.{more_number}
 use Rattle.wire.specs.Refusal.{too_short}
 use Rattle.frame.specs.Framing.{read, header_width, body_limit, sum_width, means_framed}
 use Rattle.frame.specs.declared.Frame.{Frame}
-use Rattle.frame.specs.declared.Framed.{Framed}
-use Rattle.frame.specs.declared.Framed.TheVariants.{Whole, Refused}
+use Rattle.frame.specs.Framing.{Framed}
+use Rattle.std.specs.Prelude.{Ok, Err}
 use Rattle.frame.specs.declared.Refusal.TheVariants.{TooShort, TooLong, WrongSum}
 use Rattle.frame.proofs.Framing.{Reading, no_header, is_too_long, cut, is_wrong_sum, whole, view}
 use Rattle.frame.proofs.Lacking.{lacking}
@@ -42,11 +42,11 @@ can s = by _ refl (view header_width body_limit s) where
   answers r e = subst (ReadTells s) e (read_tells r (frame_read s r e))
 
   by : (a : Answer Frame) → read header_width body_limit s ≡ a → Reading header_width body_limit s a → ReadTells s (read header_width body_limit s)
-  by _ e (no_header i) = answers (Refused (TooShort (header_width - length s))) (sym e)
-  by _ e (is_too_long i p j) = answers (Refused TooLong) (sym e)
-  by _ e (cut {n} i p j k) = answers (Refused (TooShort (header_width + n + sum_width - length s))) (sym e)
-  by _ e (is_wrong_sum i p j k w) = answers (Refused WrongSum) (sym e)
-  by _ e (whole {f} i) = answers (Whole f) (sym e)
+  by _ e (no_header i) = answers (Err (TooShort (header_width - length s))) (sym e)
+  by _ e (is_too_long i p j) = answers (Err TooLong) (sym e)
+  by _ e (cut {n} i p j k) = answers (Err (TooShort (header_width + n + sum_width - length s))) (sym e)
+  by _ e (is_wrong_sum i p j k w) = answers (Err WrongSum) (sym e)
+  by _ e (whole {f} i) = answers (Ok f) (sym e)
 
 pub tells_missing : TellsMissing ReadTells
 tells_missing = lacking header_width body_limit (lit≤ tt) can (λ s a h. told h)

@@ -5,11 +5,11 @@ use Rattle.wire.specs.Answer.{refused}
 use Rattle.wire.specs.Bytes.{be_at, part}
 use Rattle.wire.specs.Refusal.{too_short, too_long, wrong_sum, not_its_layout, out_of_range, output_short, no_such_channel, number_too_low, table_full, malformed}
 use Rattle.frame.specs.Framing.{body_limit, means_framed}
-use Rattle.frame.specs.declared.Framed.{Framed}
+use Rattle.frame.specs.Framing.{Framed}
 use Rattle.layout.specs.Layout.{fields, named}
 use Rattle.layout.specs.Group.{group}
 use Rattle.layout.specs.Paper.{means_verdict}
-use Rattle.layout.specs.declared.group.Verdict.{Verdict}
+use Rattle.layout.specs.Paper.{Verdict}
 use Rattle.record.specs.Asked.{WithTexts, with_texts}
 use Rattle.record.specs.Record.{Reading, known, unknown}
 use Rattle.entries.specs.Entry.{At}

@@ -1,7 +1,7 @@
 -- Demand 2's statements, of every answer that the contracts allow (specs/Calls): what is read, what is accepted, what is written, and that
 -- nothing is lost on the way in either direction.
 -- Assumes nothing.
-use Rattle.std.specs.Prelude.{ℕ, zero, suc, ◌+◌, ◌*◌, ◌≤◌, ◌<◌, ◌≡◌, ◌↔◌, List, [], ◌∷◌, ◌++◌, ℤ, length, take, drop}
+use Rattle.std.specs.Prelude.{ℕ, zero, suc, ◌+◌, ◌*◌, ◌≤◌, ◌<◌, ◌≡◌, ◌↔◌, List, [], ◌∷◌, ◌++◌, ℤ, length, take, drop, Ok}
 use Rattle.wire.specs.Answer.{Answer, accepted, refused, RefusedBy}
 use Rattle.wire.specs.Bytes.{Bytes, part}
 use Rattle.wire.specs.Refusal.{not_its_layout}
@@ -13,34 +13,32 @@ use Rattle.streams.specs.Cutting.{PushAs, EndAs}
 use Rattle.streams.specs.Paper.{means_pushed}
 use Rattle.streams.specs.declared.Stream.{Stream}
 use Rattle.streams.specs.declared.Pushed.{Pushed}
-use Rattle.frame.specs.declared.Framed.{Framed}
+use Rattle.frame.specs.Framing.{Framed}
 use Rattle.frame.specs.declared.walking.Walked.{Walked}
-use Rattle.frame.specs.declared.Framed.TheVariants.{Whole}
 use Rattle.frame.specs.declared.Frame.{Frame}
 use Rattle.layout.specs.Layout.{Message, heartbeat, channel_heartbeat, resend, statistics, security_status, snapshot, index, volume_index, order, trade, fields, type_number, snapshot_entries, listed, unlisted, named}
 use Rattle.layout.specs.Paper as layout_paper
-use Rattle.layout.specs.declared.group.Verdict.{Verdict}
+use Rattle.layout.specs.Paper.{Verdict}
 use Rattle.layout.specs.Group.{shown, group_offset, count, needs}
 use Rattle.record.specs.Asked as judged_as
 use Rattle.record.specs.Asked.{with_texts}
 use Rattle.record.specs.Record.{Reading, known, unknown, read_body, read_frame, group_of, groups_of}
 use Rattle.record.specs.Paper as record_paper
 use Rattle.record.specs.Paper.{means_record, means_frame_reading}
-use Rattle.record.specs.declared.Reading as code_reading
 use Rattle.record.specs.declared.Record.{Record}
-use Rattle.record.specs.declared.framed.FrameReading.{FrameReading}
-use Rattle.record.specs.declared.group.GroupReading.{GroupReading}
+use Rattle.record.specs.Paper.{FrameReading}
+use Rattle.record.specs.Paper.{GroupReading}
 use Rattle.entries.specs.Entry as stepped_as
 use Rattle.entries.specs.Entry.{entry_of, quantity_of}
 use Rattle.entries.specs.Paper.{means_asked_entry, means_quantity, means_cursor, means_step}
-use Rattle.entries.specs.declared.entry.AskedEntry.{AskedEntry}
-use Rattle.entries.specs.declared.entry.AskedQuantity.{AskedQuantity}
+use Rattle.entries.specs.Paper.{AskedEntry}
+use Rattle.entries.specs.Paper.{AskedQuantity}
 use Rattle.entries.specs.declared.cursor.Cursor.{Cursor}
-use Rattle.entries.specs.declared.cursor.Step.{Step}
+use Rattle.entries.specs.Paper.{Step}
 use Rattle.bodies.specs.Body.{Numbers, body, body_length}
 use Rattle.writer.specs.Write.{frame_of}
 use Rattle.writer.specs.Paper.{means_written}
-use Rattle.writer.specs.declared.Written.{Written}
+use Rattle.writer.specs.Paper.{Written}
 use Rattle.demands.specs.Calls.{FrameRead, FrameBody, FrameWalk, FrameWanting, FrameReach, StreamNew, StreamPush, StreamEnd, ReadFrame, Read, Judge, GroupOf, GroupsOf, EntryOf, QuantityOf, CursorStart, CursorStep, Write}
 use Rattle.demands.specs.Rules.{Rule}
 use Rattle.demands.specs.Demand1.{reader_rules, writer_rules}
@@ -68,7 +66,7 @@ pub record ByTheRules : Type 0 where
   pub stream_end :
       (st : Stream) (buffer : List ℕ) (r : Pushed) → StreamEnd st buffer r → EndAs framed_as.header_width framed_as.body_limit st buffer (means_pushed r)
   pub read_frame_call : (s : List ℕ) (x : FrameReading) → ReadFrame s x → means_frame_reading x ≡ read_frame s
-  pub read : (type : ℕ) (b : List ℕ) (x : code_reading.Reading) → Read type b x → record_paper.means_reading x ≡ read_body type b
+  pub read : (type : ℕ) (b : List ℕ) (x : record_paper.Reading) → Read type b x → record_paper.means_reading x ≡ read_body type b
   pub judge : (type : ℕ) (b : List ℕ) (v : Verdict) → Judge type b v → layout_paper.means_verdict v ≡ judged_as.judge type b
   pub group_of_call : (type : ℕ) (b : List ℕ) (i : ℕ) (x : GroupReading) → GroupOf type b i x → record_paper.means_group_reading x ≡ group_of type b i
   pub groups_of_call : (type : ℕ) (b gs : List ℕ) → GroupsOf type b gs → gs ≡ groups_of type b
@@ -113,7 +111,7 @@ pub record AsUnknown (s : List ℕ) (f : Frame) (x : FrameReading) (b : List ℕ
 -- L6: so by the reader, and by the call for the body
 abbrev pub Unlisted : Type 0
 Unlisted =
-    (s b : List ℕ) (f : Frame) (x : FrameReading) → FrameRead s (Whole f) → named f.kind ≡ unlisted → ReadFrame s x →
+    (s b : List ℕ) (f : Frame) (x : FrameReading) → FrameRead s (Ok f) → named f.kind ≡ unlisted → ReadFrame s x →
     FrameBody s b → AsUnknown s f x b
 
 -- ---- the bytes that each type's body takes
@@ -139,7 +137,7 @@ bytes_of trade b = 66
 -- R4, L3: a body is refused by 4 exactly where it has fewer
 abbrev pub Column : Type 0
 Column =
-    (m : Message) (b : List ℕ) (r : code_reading.Reading) → Read (type_number m) b r →
+    (m : Message) (b : List ℕ) (r : record_paper.Reading) → Read (type_number m) b r →
     RefusedBy not_its_layout (record_paper.means_reading r).answer ↔ (length b < bytes_of m b)
 
 -- ---- the tail: bytes behind a frame, and behind an accepted body, change nothing that is read
@@ -217,7 +215,7 @@ NoTail m b = needs m b ≡ length b
 -- D23: a frame of a listed type without a tail, read and written again, is the same bytes
 abbrev pub SameBytes : Type 0
 SameBytes =
-    (s b g out after : List ℕ) (f : Frame) (m : Message) (x : FrameReading) (r : Record) (a : Written) → Bytes s → FrameRead s (Whole f) →
+    (s b g out after : List ℕ) (f : Frame) (m : Message) (x : FrameReading) (r : Record) (a : Written) → Bytes s → FrameRead s (Ok f) →
     FrameBody s b → named f.kind ≡ listed m → NoTail m b → ReadFrame s x → (means_frame_reading x).answer ≡ accepted (means_record r) →
     GroupsOf f.kind b g → f.total ≤ length out → Write r (take (means_frame_reading x).used (means_frame_reading x).texts) g out a after →
     (means_written a ≡ accepted f.total) × (after ≡ take f.total s ++ drop f.total out)

@@ -4,11 +4,11 @@ use Rattle.std.specs.Prelude.{ℕ, ◌+◌, ◌≤◌, ◌≡◌, ◌⊎◌, Lis
 use Rattle.wire.specs.Answer.{Answer}
 use Rattle.wire.specs.Bytes.{Bytes, part}
 use Rattle.frame.specs.Framing as frame
-use Rattle.frame.specs.declared.Framed.{Framed}
+use Rattle.frame.specs.Framing.{Framed}
 use Rattle.streams.specs.Paper.{means_pushed}
 use Rattle.streams.specs.declared.Stream.{Stream}
 use Rattle.streams.specs.declared.Pushed.{Pushed}
-use Rattle.layout.specs.declared.group.Verdict.{Verdict}
+use Rattle.layout.specs.Paper.{Verdict}
 use Rattle.layout.specs.Paper as layout
 use Rattle.layout.specs.Layout.{Message, fields, type_number, Listed, listed, unlisted, named}
 use Rattle.record.specs.Asked.{WithTexts, filled}
@@ -16,21 +16,21 @@ use Rattle.record.specs.Record as record_of
 use Rattle.record.specs.Record.{groups_of}
 use Rattle.record.specs.Paper.{means_record, means_reading, means_group_reading}
 use Rattle.record.specs.declared.Record.{Record}
-use Rattle.record.specs.declared.Reading.{Reading}
-use Rattle.record.specs.declared.group.GroupReading.{GroupReading}
+use Rattle.record.specs.Paper.{Reading}
+use Rattle.record.specs.Paper.{GroupReading}
 use Rattle.entries.specs.Entry.{entry_found}
 use Rattle.entries.specs.Paper.{means_asked_entry, means_quantity, means_cursor, means_step}
-use Rattle.entries.specs.declared.entry.AskedEntry.{AskedEntry}
-use Rattle.entries.specs.declared.entry.AskedQuantity.{AskedQuantity}
+use Rattle.entries.specs.Paper.{AskedEntry}
+use Rattle.entries.specs.Paper.{AskedQuantity}
 use Rattle.entries.specs.declared.cursor.Cursor.{Cursor}
-use Rattle.entries.specs.declared.cursor.Step.{Step}
+use Rattle.entries.specs.Paper.{Step}
 use Rattle.bodies.specs.Body.{text_size}
 use Rattle.writer.specs.Paper as writer
-use Rattle.writer.specs.declared.Written.{Written}
+use Rattle.writer.specs.Paper.{Written}
 use Rattle.tracker.specs.declared.Tracker.{Tracker}
 use Rattle.tracker.specs.declared.Started.{Started}
 use Rattle.tracker.specs.declared.Reply.{Reply}
-use Rattle.tracker.specs.declared.Requested.{Requested}
+use Rattle.tracker.specs.Request.{Requested}
 use Rattle.tracker.specs.SetUp as starting
 use Rattle.tracker.specs.Arrived.{Arrival, arrival_said}
 use Rattle.tracker.specs.Request as asking

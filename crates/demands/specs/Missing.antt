@@ -8,7 +8,7 @@ use Rattle.wire.specs.Refusal.{too_short}
 use Rattle.frame.specs.Framing.{header_width, body_limit, means_framed}
 use Rattle.frame.specs.Lacking.{ReadCall, ShortSays}
 use Rattle.frame.specs.declared.Frame.{Frame}
-use Rattle.frame.specs.declared.Framed.{Framed}
+use Rattle.frame.specs.Framing.{Framed}
 use Rattle.streams.specs.declared.Stream.{Stream}
 use Rattle.orizhgum.specs.declared.FrameAnswer.{FrameAnswer}
 use Rattle.orizhgum.specs.declared.streamed.StreamAnswer.{StreamAnswer}

@@ -4,18 +4,18 @@
 use Rattle.std.specs.Prelude.{ℕ, ◌+◌, ◌^◌, ◌≤◌, ◌<◌, ◌≡◌, List, [], ◌∷◌, ℤ, pos, replicate}
 use Rattle.wire.specs.Answer.{accepted}
 use Rattle.frame.specs.Framing as framed_as
-use Rattle.frame.specs.declared.Framed.{Framed}
+use Rattle.frame.specs.Framing.{Framed}
 use Rattle.layout.specs.Layout.{resend}
 use Rattle.record.specs.Asked.{with_texts}
 use Rattle.record.specs.Record.{known}
 use Rattle.record.specs.Paper.{means_frame_reading}
-use Rattle.record.specs.declared.framed.FrameReading.{FrameReading}
+use Rattle.record.specs.Paper.{FrameReading}
 use Rattle.gaps.specs.declared.Run.{Run}
 use Rattle.gaps.specs.History.{Missing}
 use Rattle.tracker.specs.declared.Tracker.{Tracker}
 use Rattle.tracker.specs.FirstRun.{lost, first_run}
 use Rattle.tracker.specs.Request.{batch, asked, space, written, nothing, means_requested}
-use Rattle.tracker.specs.declared.Requested.{Requested}
+use Rattle.tracker.specs.Request.{Requested}
 use Rattle.demands.specs.Calls.{FrameRead, ReadFrame, Request}
 use Rattle.demands.specs.Play.{Fresh, Turn, Play, history_of, Has, from_of}
 

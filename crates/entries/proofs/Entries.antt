@@ -3,6 +3,7 @@
 use Prim.Native.Nat.{ℕ, ◌+◌, ◌-◌, ◌*◌, ◌<◌, ◌≤◌, zero-le}
 use mathlib.Core.Path.{◌≡◌, refl, ◌∙◌}
 use mathlib.Core.Bool.{true}
+use mathlib.Core.Logic.{◌⊎◌, inl, inr}
 use mathlib.Core.List.{List, [], ◌∷◌}
 use native.Mathlib.Omega.{arith}
 use borrow.Author.Tests.{eq-eqb, ne_eqb, lt-ltb, le-ltb}
@@ -51,6 +52,11 @@ module _ (s : List ℕ) where
   no_start (bare e) = rw e
   no_start (grouped g e) = rw e
   no_start unknown = refl
+
+  pub starts : (type : ℕ) → (type ≡ 300111) ⊎ (type ≡ 309011) → start (named type) s ≡ record { offset = 69; left = be_at s 65 4 }
+  unfolding start size
+  starts type (inl e) = rw (named_as snapshot e)
+  starts type (inr e) = rw (named_as index e)
 
   pub no_step : {l : Listed} (c : At) → NoEntries l → step l s c ≡ accepted no_such_entry
   unfolding step
@@ -175,15 +181,15 @@ module _ (type : ℕ) (s : List ℕ) where
 
 -- ---- shown quantities
 
-pub quantity-found : {s : List ℕ} {p j : ℕ} → SnapshotEntry s p → j < be_at s (p + 28) 4 → accepted (quantity_at snapshot_entries s p j) ≡ accepted (found (to_z w64 (be_at s (p + 32 + 8 * j) 8)))
+pub quantity-found : {s : List ℕ} {p j : ℕ} → SnapshotEntry s p → j < be_at s (p + 28) 4 → quantity_at snapshot_entries s p j ≡ found (to_z w64 (be_at s (p + 32 + 8 * j) 8))
 unfolding size
 quantity-found n h = rw (n.shows, lt-ltb _ _ h)
 
-pub quantity-behind : {s : List ℕ} {p j : ℕ} → SnapshotEntry s p → be_at s (p + 28) 4 ≤ j → accepted (quantity_at snapshot_entries s p j) ≡ accepted no_such_entry
+pub quantity-behind : {s : List ℕ} {p j : ℕ} → SnapshotEntry s p → be_at s (p + 28) 4 ≤ j → quantity_at snapshot_entries s p j ≡ no_such_entry
 unfolding size
 quantity-behind n h = rw (n.shows, le-ltb _ _ h)
 
-pub quantity-none : {s : List ℕ} {p : ℕ} (j : ℕ) → IndexEntry s p → accepted (quantity_at index_entries s p j) ≡ accepted no_such_entry
+pub quantity-none : {s : List ℕ} {p : ℕ} (j : ℕ) → IndexEntry s p → quantity_at index_entries s p j ≡ no_such_entry
 quantity-none j n = rw (n.shows, le-ltb _ _ zero-le)
 
 -- ---- a step

@@ -1,23 +1,14 @@
 -- The code's answers in the specs' terms: for each case of an enum, its number and values.
 -- Assumes nothing.
-use Rattle.std.specs.Prelude.{[], ℤ, pos}
+use Rattle.std.specs.Prelude.{[], ℤ, pos, Option, Some, None, Result, Ok, Err}
 use Rattle.wire.specs.Answer.{Answer, accepted, refused}
-use Rattle.layout.specs.Layout.{Entries, of_snapshot, of_index}
 use Rattle.layout.specs.Paper.{body_refusal}
 use Rattle.record.specs.Asked.{Asked, found, no_such_entry}
 use Rattle.entries.specs.Entry.{Says, level, level_without_price, price, size, both, no_limit, unknown, Entry, At, Stepped}
-use Rattle.entries.specs.declared.entry.Entries as code_entries
+use Rattle.layout.specs.declared.group.Refusal.{Refusal}
 use Rattle.entries.specs.declared.entry.Says as says_code
 use Rattle.entries.specs.declared.entry.Entry as entry_code
-use Rattle.entries.specs.declared.entry.AskedEntry as asked_entry
-use Rattle.entries.specs.declared.entry.AskedQuantity as asked_quantity
 use Rattle.entries.specs.declared.cursor.Cursor as cursor_code
-use Rattle.entries.specs.declared.cursor.Step as step_code
-
--- whose entries the code means
-abbrev pub means_entries : code_entries.Entries → Entries
-means_entries code_entries.TheVariants.OfSnapshot = of_snapshot
-means_entries code_entries.TheVariants.OfIndex = of_index
 
 -- which of the seven things the code means
 abbrev pub means_says : says_code.Says → Says
@@ -32,22 +23,36 @@ means_says says_code.TheVariants.Unknown = unknown
 abbrev pub means_entry : entry_code.Entry → Entry
 means_entry e = record { characters = e.characters; says = means_says e.says }
 
--- what the calls by position answer
-abbrev pub means_asked_entry : asked_entry.AskedEntry → Answer (Asked Entry)
-means_asked_entry (asked_entry.TheVariants.Found e) = accepted (found (means_entry e))
-means_asked_entry asked_entry.TheVariants.NoSuchEntry = accepted no_such_entry
-means_asked_entry (asked_entry.TheVariants.Refused x) = refused (body_refusal x) []
+-- what is asked for by position
+abbrev pub means_asked : {A B : Type 0} → (A → B) → Option A → Asked B
+means_asked means (Some x) = found (means x)
+means_asked means None = no_such_entry
 
-abbrev pub means_quantity : asked_quantity.AskedQuantity → Answer (Asked ℤ)
-means_quantity (asked_quantity.TheVariants.Found z) = accepted (found z)
-means_quantity asked_quantity.TheVariants.NoSuchEntry = accepted no_such_entry
-means_quantity (asked_quantity.TheVariants.Refused x) = refused (body_refusal x) []
+-- what the calls by position answer
+abbrev pub AskedEntry : Type 0
+AskedEntry = Result (Option entry_code.Entry) Refusal
+
+abbrev pub means_asked_entry : AskedEntry → Answer (Asked Entry)
+means_asked_entry (Ok a) = accepted (means_asked means_entry a)
+means_asked_entry (Err x) = refused (body_refusal x) []
+
+abbrev pub AskedQuantity : Type 0
+AskedQuantity = Result (Option ℤ) Refusal
+
+abbrev pub means_quantity : AskedQuantity → Answer (Asked ℤ)
+means_quantity (Ok a) = accepted (means_asked (λ z. z) a)
+means_quantity (Err x) = refused (body_refusal x) []
 
 -- the cursor, and its step
 abbrev pub means_cursor : cursor_code.Cursor → At
 means_cursor c = record { offset = c.offset; left = c.left }
 
-abbrev pub means_step : step_code.Step → Answer (Asked Stepped)
-means_step (step_code.TheVariants.Found e c) = accepted (found (record { entry = means_entry e; onward = means_cursor c }))
-means_step step_code.TheVariants.NoSuchEntry = accepted no_such_entry
-means_step (step_code.TheVariants.Refused x) = refused (body_refusal x) []
+abbrev pub Step : Type 0
+Step = Result (Option (entry_code.Entry × cursor_code.Cursor)) Refusal
+
+abbrev pub means_stepped : entry_code.Entry × cursor_code.Cursor → Stepped
+means_stepped x = record { entry = means_entry x.0; onward = means_cursor x.1 }
+
+abbrev pub means_step : Step → Answer (Asked Stepped)
+means_step (Ok a) = accepted (means_asked means_stepped a)
+means_step (Err x) = refused (body_refusal x) []

@@ -2,14 +2,15 @@
 ghost use Rattle.std.specs.Prelude.{◌≡◌};
 ghost use Rattle.layout.specs.Layout.{entries, named};
 ghost use Rattle.entries.specs.Entry.{start, step_in, step};
-ghost use Rattle.entries.specs.Paper.{means_entries, means_cursor, means_step};
+ghost use Rattle.entries.specs.Paper.{means_cursor, means_step};
 
 use crate::Entry;
-use crate::entry::{COUNT, Entries, START, behind, entry_at, groups};
-use layout::{Refusal, Verdict};
+use crate::entry::{COUNT, Entries, OfIndex, OfSnapshot, START};
+use layout::Refusal;
 use record::Record;
+use wire::Number;
 
-// The offset of the next entry, and how many are left.
+// The offset of the next entry, and how many are left. C interface: it crosses by value, without the body, so it is no Iterator.
 #[repr(C)]
 #[derive(Clone, Copy)]
 pub struct Cursor {
@@ -17,31 +18,19 @@ pub struct Cursor {
     pub left: u32,
 }
 
-// The entry at a cursor, with the cursor behind it.
-#[derive(Clone, Copy)]
-pub enum Step {
-    Found(Entry, Cursor),
-    NoSuchEntry,
-    Refused(Refusal),
-}
-
-// The entry at an offset with some left, after 4 and 5 for its own fields and shown quantities.
-fn step_in(e: Entries, body: &[u8], offset: usize, left: u32) -> Step
-    ensures { means_step result ≡ step_in (entries (means_entries e)) body.now (record { offset = offset; left = left }) }
+// The entry at a cursor and the cursor behind it, after 4 and 5 for its own fields and shown quantities.
+fn step_in<E: Entries>(body: &[u8], at: Cursor) -> Result<Option<(Entry, Cursor)>, Refusal>
+    ensures { means_step result ≡ step_in (entries E.whose) body.now (means_cursor at) }
 {
-    if left == 0 {
-        return Step::NoSuchEntry;
+    if at.left == 0 {
+        return Ok(None);
     }
-    match layout::judge(groups(e), body, offset, 1) {
-        Verdict::Accepted => Step::Found(
-            entry_at(e, body, offset),
-            Cursor {
-                offset: behind(e, body, offset),
-                left: left - 1,
-            },
-        ),
-        Verdict::Refused(x) => Step::Refused(x),
-    }
+    layout::judge(E::groups(), body, at.offset, 1)?;
+    let next = Cursor {
+        offset: E::behind(body, at.offset),
+        left: at.left - 1,
+    };
+    Ok(Some((E::entry_at(body, at.offset), next)))
 }
 
 impl Cursor {
@@ -50,28 +39,22 @@ impl Cursor {
         ensures { means_cursor result ≡ start (named kind) body.now }
     {
         match kind {
-            Record::SNAPSHOT => Cursor {
+            Record::SNAPSHOT | Record::INDEX => Cursor {
                 offset: START,
-                left: wire::be4(body, COUNT),
-            },
-            Record::INDEX => Cursor {
-                offset: START,
-                left: wire::be4(body, COUNT),
+                left: u32::at(body, COUNT),
             },
             _ => Cursor { offset: 0, left: 0 },
         }
     }
 
     // The entry at the cursor and the cursor behind it; at 0 left there is none.
-    pub fn step(self, kind: u32, body: &[u8]) -> Step
+    pub fn step(self, kind: u32, body: &[u8]) -> Result<Option<(Entry, Cursor)>, Refusal>
         ensures { means_step result ≡ step (named kind) body.now (means_cursor self) }
     {
-        let offset = self.offset;
-        let left = self.left;
         match kind {
-            Record::SNAPSHOT => step_in(Entries::OfSnapshot, body, offset, left),
-            Record::INDEX => step_in(Entries::OfIndex, body, offset, left),
-            _ => Step::NoSuchEntry,
+            Record::SNAPSHOT => step_in::<OfSnapshot>(body, self),
+            Record::INDEX => step_in::<OfIndex>(body, self),
+            _ => Ok(None),
         }
     }
 }

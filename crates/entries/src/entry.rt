@@ -1,28 +1,23 @@
 // Entries: what each says, and entries and their shown quantities by position.
-ghost use Rattle.std.specs.Prelude.{◌≡◌, true, cond, [], ◌∷◌, ◌<◌, pos};
-ghost use Rattle.wire.specs.Answer.{accepted};
+ghost use Rattle.std.specs.Prelude.{◌≡◌, true, cond, [], ◌∷◌, pos, IfSome};
 ghost use Rattle.layout.specs.Kind.{among};
+ghost use Rattle.layout.specs.Layout as listed;
 ghost use Rattle.layout.specs.Layout.{of_snapshot, of_index, entry_group, entries};
 ghost use Rattle.layout.specs.Group.{fit, next_offset, group_offset, count_at};
 ghost use Rattle.layout.specs.Paper.{means_groups};
+ghost use Rattle.record.specs.Asked.{below};
 ghost use Rattle.entries.specs.Entry.{entries_start, levels, prices, boths, index_prices, same, says_in, entry_at, entry_in, entry_of, quantity_at, quantity_in, quantity_of};
 ghost use Rattle.entries.specs.Entry as of;
-ghost use Rattle.entries.specs.Paper.{means_entries, means_says, means_entry, means_asked_entry, means_quantity};
+ghost use Rattle.entries.specs.Paper.{means_says, means_entry, means_asked, means_asked_entry, means_quantity};
 
-use layout::{Groups, Refusal, Verdict, entry, index_entry, width};
+use layout::{Groups, Refusal, entry, index_entry, width};
 use record::{Record, judge};
+use wire::Number;
 
 // Where the count of entries stands, and where the first does: behind the common part. An index has both where a snapshot has.
 pub(crate) const COUNT: usize = layout::snapshot::COUNT;
 
 pub(crate) const START: usize = layout::snapshot::SIZE;
-
-// Whose entries: a snapshot's, or an index's.
-#[derive(Clone, Copy)]
-pub enum Entries {
-    OfSnapshot,
-    OfIndex,
-}
 
 // What an entry says: exactly one of seven things.
 #[derive(Clone, Copy)]
@@ -61,64 +56,49 @@ pub struct Entry {
     pub says: Says,
 }
 
-// Entry i of a body.
-#[derive(Clone, Copy)]
-pub enum AskedEntry {
-    Found(Entry),
-    NoSuchEntry,
-    Refused(Refusal),
-}
-
-// Shown quantity j of entry i.
-#[derive(Clone, Copy)]
-pub enum AskedQuantity {
-    Found(i64),
-    NoSuchEntry,
-    Refused(Refusal),
-}
-
 // Which type characters are a level, a price, price and size; and a price in an index. `0` is 0x3020, `x1` is 0x7831.
 pub fn is_level(characters: u16) -> bool
     ensures { result ≡ among levels characters }
 {
-    (characters == 0x3020) | (characters == 0x3120)
+    matches!(characters, 0x3020 | 0x3120)
 }
 
 pub fn is_price(characters: u16) -> bool
     ensures { result ≡ among prices characters }
 {
-    (characters == 0x3220)
-        | ((characters == 0x3420)
-            | ((characters == 0x3720)
-                | ((characters == 0x3820)
-                    | ((characters == 0x3920)
-                        | ((characters == 0x7831)
-                            | ((characters == 0x7832)
-                                | ((characters == 0x7835)
-                                    | ((characters == 0x7836)
-                                        | ((characters == 0x7837)
-                                            | ((characters == 0x7838)
-                                                | ((characters == 0x7839)
-                                                    | ((characters == 0x786a)
-                                                        | (characters == 0x786b)))))))))))))
+    matches!(
+        characters,
+        0x3220
+            | 0x3420
+            | 0x3720
+            | 0x3820
+            | 0x3920
+            | 0x7831
+            | 0x7832
+            | 0x7835
+            | 0x7836
+            | 0x7837
+            | 0x7838
+            | 0x7839
+            | 0x786a
+            | 0x786b
+    )
 }
 
 pub fn is_both(characters: u16) -> bool
     ensures { result ≡ among boths characters }
 {
-    (characters == 0x7833) | (characters == 0x7834)
+    matches!(characters, 0x7833 | 0x7834)
 }
 
 pub fn is_index_price(characters: u16) -> bool
     ensures { result ≡ among index_prices characters }
 {
-    (characters == 0x3320)
-        | ((characters == 0x7861)
-            | ((characters == 0x7862) | ((characters == 0x7863) | (characters == 0x7864))))
+    matches!(characters, 0x3320 | 0x7861 | 0x7862 | 0x7863 | 0x7864)
 }
 
 impl Says {
-    // The characters `xe` and `xf`, which say a price or no limit, and `xg`, which says a size.
+    // The characters `xe` and `xf`, which say a price or no limit, and `xg`, which says a size. Numbers, as C has an entry's characters.
     pub const XE: u16 = 0x7865;
 
     pub const XF: u16 = 0x7866;
@@ -146,42 +126,35 @@ fn limit(price: i64, mark: i64) -> Says
 fn said(characters: u16, price: i64, size: i64, level: u16, orders: i64, shown: u32) -> Says
     ensures { means_says result ≡ says_in of_snapshot characters (pos characters ∷ price ∷ size ∷ pos level ∷ orders ∷ pos shown ∷ []) }
 {
-    if is_level(characters) {
-        if price == 0 {
-            return Says::LevelWithoutPrice {
-                size,
-                level,
-                order_count: orders,
-                shown,
-            };
+    match characters {
+        c if is_level(c) => {
+            if price == 0 {
+                Says::LevelWithoutPrice {
+                    size,
+                    level,
+                    order_count: orders,
+                    shown,
+                }
+            } else {
+                Says::Level {
+                    entry_price: price,
+                    size,
+                    level,
+                    order_count: orders,
+                    shown,
+                }
+            }
         }
-        return Says::Level {
+        c if is_price(c) => Says::Price { entry_price: price },
+        Says::XE => limit(price, Says::NO_UPPER_LIMIT),
+        Says::XF => limit(price, Says::NO_LOWER_LIMIT),
+        Says::XG => Says::Size { size },
+        c if is_both(c) => Says::Both {
             entry_price: price,
             size,
-            level,
-            order_count: orders,
-            shown,
-        };
+        },
+        _ => Says::Unknown,
     }
-    if is_price(characters) {
-        return Says::Price { entry_price: price };
-    }
-    if characters == Says::XE {
-        return limit(price, Says::NO_UPPER_LIMIT);
-    }
-    if characters == Says::XF {
-        return limit(price, Says::NO_LOWER_LIMIT);
-    }
-    if characters == Says::XG {
-        return Says::Size { size };
-    }
-    if is_both(characters) {
-        return Says::Both {
-            entry_price: price,
-            size,
-        };
-    }
-    Says::Unknown
 }
 
 // What an entry of an index says.
@@ -199,14 +172,14 @@ fn said_in_index(characters: u16, price: i64) -> Says
 fn snapshot_entry(e: &[u8]) -> Entry
     ensures { means_entry result ≡ entry_at of_snapshot e.now 0 }
 {
-    let characters = wire::be2(e, entry::ENTRY_TYPE);
+    let characters = u16::at(e, entry::ENTRY_TYPE);
     let says = said(
         characters,
-        wire::i64_at(e, entry::PRICE),
-        wire::i64_at(e, entry::SIZE),
-        wire::be2(e, entry::LEVEL),
-        wire::i64_at(e, entry::ORDER_COUNT),
-        wire::be4(e, entry::SHOWN_COUNT),
+        i64::at(e, entry::PRICE),
+        i64::at(e, entry::SIZE),
+        u16::at(e, entry::LEVEL),
+        i64::at(e, entry::ORDER_COUNT),
+        u32::at(e, entry::SHOWN_COUNT),
     );
     Entry { characters, says }
 }
@@ -214,131 +187,140 @@ fn snapshot_entry(e: &[u8]) -> Entry
 fn index_entry(e: &[u8]) -> Entry
     ensures { means_entry result ≡ entry_at of_index e.now 0 }
 {
-    let characters = wire::be2(e, index_entry::ENTRY_TYPE);
-    let says = said_in_index(characters, wire::i64_at(e, index_entry::PRICE));
+    let characters = u16::at(e, index_entry::ENTRY_TYPE);
+    let says = said_in_index(characters, i64::at(e, index_entry::PRICE));
     Entry { characters, says }
 }
 
-// The groups that entries are.
-pub(crate) fn groups(e: Entries) -> Groups
-    ensures { means_groups result ≡ entry_group (means_entries e) }
-{
-    match e {
-        Entries::OfSnapshot => Groups::SnapshotEntries,
-        Entries::OfIndex => Groups::IndexEntries,
+// A snapshot's entries, or an index's: at an offset that has one, the entry, what is behind it, and what it shows.
+pub(crate) trait Entries {
+    // Whose they are.
+    ghost whose: { listed.Entries };
+
+    // The groups that they are.
+    fn groups() -> Groups
+        ensures { means_groups result ≡ entry_group whose };
+
+    // The entry at an offset.
+    fn entry_at(s: &[u8], p: usize) -> Entry
+        requires { fit (entry_group whose) s.now p 1 ≡ true }
+        ensures { means_entry result ≡ entry_at whose s.now p };
+
+    // The offset behind an entry and its shown quantities.
+    fn behind(s: &[u8], p: usize) -> usize
+        requires { fit (entry_group whose) s.now p 1 ≡ true }
+        ensures { result ≡ next_offset (entry_group whose) s.now p };
+
+    // Quantity j of those that the entry at an offset shows.
+    fn quantity_at(s: &[u8], p: usize, j: u32) -> Option<i64>
+        requires { fit (entry_group whose) s.now p 1 ≡ true }
+        ensures { means_asked (λ z. z) result ≡ quantity_at (entry_group whose) s.now p j };
+}
+
+pub(crate) struct OfSnapshot;
+
+pub(crate) struct OfIndex;
+
+impl Entries for OfSnapshot {
+    ghost whose = { of_snapshot };
+
+    fn groups() -> Groups {
+        Groups::SnapshotEntries
+    }
+
+    fn entry_at(s: &[u8], p: usize) -> Entry {
+        let q = p + entry::WIDTH;
+        snapshot_entry(&s[p..q])
+    }
+
+    fn behind(s: &[u8], p: usize) -> usize {
+        let q = p + entry::WIDTH;
+        let e = &s[p..q];
+        q + width::QUANTITY * (u32::at(e, entry::SHOWN_COUNT) as usize)
+    }
+
+    fn quantity_at(s: &[u8], p: usize, j: u32) -> Option<i64> {
+        if j < u32::at(s, p + entry::SHOWN_COUNT) {
+            Some(i64::at(s, p + entry::WIDTH + width::QUANTITY * (j as usize)))
+        } else {
+            None
+        }
     }
 }
 
-// The entry at an offset that has one.
-pub(crate) fn entry_at(e: Entries, s: &[u8], p: usize) -> Entry
-    requires { fit (entry_group (means_entries e)) s.now p 1 ≡ true }
-    ensures { means_entry result ≡ entry_at (means_entries e) s.now p }
-{
-    match e {
-        Entries::OfSnapshot => {
-            let q = p + entry::WIDTH;
-            snapshot_entry(&s[p..q])
-        }
-        Entries::OfIndex => {
-            let q = p + index_entry::WIDTH;
-            index_entry(&s[p..q])
-        }
-    }
-}
+impl Entries for OfIndex {
+    ghost whose = { of_index };
 
-// The offset behind an entry and its shown quantities.
-pub(crate) fn behind(e: Entries, s: &[u8], p: usize) -> usize
-    requires { fit (entry_group (means_entries e)) s.now p 1 ≡ true }
-    ensures { result ≡ next_offset (entry_group (means_entries e)) s.now p }
-{
-    match e {
-        Entries::OfSnapshot => {
-            let q = p + entry::WIDTH;
-            let e = &s[p..q];
-            q + width::QUANTITY * (wire::be4(e, entry::SHOWN_COUNT) as usize)
-        }
-        Entries::OfIndex => p + index_entry::WIDTH,
+    fn groups() -> Groups {
+        Groups::IndexEntries
     }
-}
 
-// Quantity j of those that the entry at an offset shows.
-fn quantity_at(e: Entries, s: &[u8], p: usize, j: u32) -> AskedQuantity
-    requires { fit (entry_group (means_entries e)) s.now p 1 ≡ true }
-    ensures { means_quantity result ≡ accepted (quantity_at (entry_group (means_entries e)) s.now p j) }
-{
-    match e {
-        Entries::OfSnapshot => {
-            if j < wire::be4(s, p + entry::SHOWN_COUNT) {
-                AskedQuantity::Found(wire::i64_at(
-                    s,
-                    p + entry::WIDTH + width::QUANTITY * (j as usize),
-                ))
-            } else {
-                AskedQuantity::NoSuchEntry
-            }
-        }
-        Entries::OfIndex => AskedQuantity::NoSuchEntry,
+    fn entry_at(s: &[u8], p: usize) -> Entry {
+        let q = p + index_entry::WIDTH;
+        index_entry(&s[p..q])
+    }
+
+    fn behind(_s: &[u8], p: usize) -> usize {
+        p + index_entry::WIDTH
+    }
+
+    // It shows none.
+    fn quantity_at(_s: &[u8], _p: usize, _j: u32) -> Option<i64> {
+        None
     }
 }
 
 // Where entry i stands, of entries that are all there.
-fn offset_of(e: Entries, s: &[u8], i: u32) -> usize
-    requires { (fit (entry_group (means_entries e)) s.now entries_start (count_at (entries (means_entries e)) entries_start s.now) ≡ true) × (i < count_at (entries (means_entries e)) entries_start s.now) }
-    ensures { (result ≡ group_offset (entry_group (means_entries e)) s.now entries_start i) × (fit (entry_group (means_entries e)) s.now result 1 ≡ true) }
+fn offset_of<E: Entries>(s: &[u8], i: u32) -> Option<usize>
+    requires { fit (entry_group E.whose) s.now entries_start (count_at (entries E.whose) entries_start s.now) ≡ true }
+    ensures is { means_asked (λ p. p) result ≡ below i (count_at (entries E.whose) entries_start s.now) (group_offset (entry_group E.whose) s.now entries_start i) }
+    ensures there { IfSome result (λ p. fit (entry_group E.whose) s.now p 1 ≡ true) }
 {
-    layout::offset_from(groups(e), s, START, i)
+    if i < u32::at(s, COUNT) {
+        Some(layout::offset_from(E::groups(), s, START, i))
+    } else {
+        None
+    }
 }
 
 // Entry i of entries that are all there.
-fn entry_in(e: Entries, s: &[u8], i: u32) -> AskedEntry
-    requires { fit (entry_group (means_entries e)) s.now entries_start (count_at (entries (means_entries e)) entries_start s.now) ≡ true }
-    ensures { means_asked_entry result ≡ accepted (entry_in (entries (means_entries e)) entries_start s.now i) }
+fn entry_in<E: Entries>(s: &[u8], i: u32) -> Option<Entry>
+    requires { fit (entry_group E.whose) s.now entries_start (count_at (entries E.whose) entries_start s.now) ≡ true }
+    ensures { means_asked means_entry result ≡ entry_in (entries E.whose) entries_start s.now i }
 {
-    if i < wire::be4(s, COUNT) {
-        let p = offset_of(e, s, i);
-        AskedEntry::Found(entry_at(e, s, p))
-    } else {
-        AskedEntry::NoSuchEntry
-    }
+    let p = offset_of::<E>(s, i)?;
+    Some(E::entry_at(s, p))
 }
 
 // Shown quantity j of entry i, of entries that are all there.
-fn quantity_in(e: Entries, s: &[u8], i: u32, j: u32) -> AskedQuantity
-    requires { fit (entry_group (means_entries e)) s.now entries_start (count_at (entries (means_entries e)) entries_start s.now) ≡ true }
-    ensures { means_quantity result ≡ accepted (quantity_in (entries (means_entries e)) entries_start s.now i j) }
+fn quantity_in<E: Entries>(s: &[u8], i: u32, j: u32) -> Option<i64>
+    requires { fit (entry_group E.whose) s.now entries_start (count_at (entries E.whose) entries_start s.now) ≡ true }
+    ensures { means_asked (λ z. z) result ≡ quantity_in (entries E.whose) entries_start s.now i j }
 {
-    if i < wire::be4(s, COUNT) {
-        let p = offset_of(e, s, i);
-        quantity_at(e, s, p, j)
-    } else {
-        AskedQuantity::NoSuchEntry
-    }
+    let p = offset_of::<E>(s, i)?;
+    E::quantity_at(s, p, j)
 }
 
 // Entry i of a body, from 0, after 4 and 5 for the whole of it.
-pub fn entry_of(kind: u32, body: &[u8], i: u32) -> AskedEntry
+pub fn entry_of(kind: u32, body: &[u8], i: u32) -> Result<Option<Entry>, Refusal>
     ensures { means_asked_entry result ≡ entry_of kind body.now i }
 {
-    match judge(kind, body) {
-        Verdict::Accepted => match kind {
-            Record::SNAPSHOT => entry_in(Entries::OfSnapshot, body, i),
-            Record::INDEX => entry_in(Entries::OfIndex, body, i),
-            _ => AskedEntry::NoSuchEntry,
-        },
-        Verdict::Refused(x) => AskedEntry::Refused(x),
-    }
+    judge(kind, body)?;
+    Ok(match kind {
+        Record::SNAPSHOT => entry_in::<OfSnapshot>(body, i),
+        Record::INDEX => entry_in::<OfIndex>(body, i),
+        _ => None,
+    })
 }
 
 // Shown quantity j of entry i, each from 0, whatever the entry says: the wire's count decides.
-pub fn quantity_of(kind: u32, body: &[u8], i: u32, j: u32) -> AskedQuantity
+pub fn quantity_of(kind: u32, body: &[u8], i: u32, j: u32) -> Result<Option<i64>, Refusal>
     ensures { means_quantity result ≡ quantity_of kind body.now i j }
 {
-    match judge(kind, body) {
-        Verdict::Accepted => match kind {
-            Record::SNAPSHOT => quantity_in(Entries::OfSnapshot, body, i, j),
-            Record::INDEX => quantity_in(Entries::OfIndex, body, i, j),
-            _ => AskedQuantity::NoSuchEntry,
-        },
-        Verdict::Refused(x) => AskedQuantity::Refused(x),
-    }
+    judge(kind, body)?;
+    Ok(match kind {
+        Record::SNAPSHOT => quantity_in::<OfSnapshot>(body, i, j),
+        Record::INDEX => quantity_in::<OfIndex>(body, i, j),
+        _ => None,
+    })
 }

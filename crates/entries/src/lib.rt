@@ -4,8 +4,5 @@
 mod cursor;
 mod entry;
 
-pub use cursor::{Cursor, Step};
-pub use entry::{
-    AskedEntry, AskedQuantity, Entry, Says, entry_of, is_both, is_index_price, is_level, is_price,
-    quantity_of,
-};
+pub use cursor::Cursor;
+pub use entry::{Entry, Says, entry_of, is_both, is_index_price, is_level, is_price, quantity_of};

@@ -4,8 +4,10 @@ ghost use Rattle.frame.specs.Framing.{header_width, body_limit};
 ghost use Rattle.frame.specs.Wanting.{wanting, reach};
 
 use crate::Frame;
+use wire::Number;
 
-// What bytes lack, over the header's width and the body limit.
+// What bytes lack, over the header's width and the body limit. Not by way of `read`, here and below: it adds up the frame's bytes,
+// and a stream asks this of every cut.
 fn wanting_at(s: &[u8], h: usize, limit: usize) -> usize
     requires { (4 ≤ h) × (h ≤ 64) × (limit ≤ 65536) }
     ensures { result ≡ wanting h limit s.now }
@@ -13,7 +15,7 @@ fn wanting_at(s: &[u8], h: usize, limit: usize) -> usize
     if s.len() < h {
         return h - s.len();
     }
-    let len = wire::be4(s, h - Frame::LENGTH) as usize;
+    let len = u32::at(s, h - Frame::LENGTH) as usize;
     if limit < len {
         return 0;
     }
@@ -31,7 +33,7 @@ pub fn wanting(s: &[u8]) -> usize
     wanting_at(s, Frame::HEADER, Frame::BODY_LIMIT)
 }
 
-// How far they are judged, over the same.
+// How far they are judged, over the same. Its tests are those of what they lack; one struct of both answers is no plainer.
 fn reach_at(s: &[u8], h: usize, limit: usize) -> usize
     requires { (4 ≤ h) × (h ≤ 64) × (limit ≤ 65536) }
     ensures { result ≡ reach h limit s.now }
@@ -39,7 +41,7 @@ fn reach_at(s: &[u8], h: usize, limit: usize) -> usize
     if s.len() < h {
         return s.len();
     }
-    let len = wire::be4(s, h - Frame::LENGTH) as usize;
+    let len = u32::at(s, h - Frame::LENGTH) as usize;
     if limit < len {
         return h;
     }

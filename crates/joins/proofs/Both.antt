@@ -3,7 +3,7 @@ use Prim.Native.Nat.{ℕ, zero, suc, ◌+◌, ◌≤◌, ◌<◌}
 use native.Mathlib.Omega.{arith}
 use mathlib.Core.Path.{◌≡◌, refl, ap, sym, ◌∙◌}
 use mathlib.Core.List.{List, []}
-use mathlib.Core.Bool.{true, false}
+use mathlib.Core.Bool.{Bool, true, false, cond, ◌&&◌}
 use Rattle.wire.specs.Answer.{accepted, refused, guard}
 use Rattle.wire.specs.Refusal.{table_full, malformed, set_ups_differ}
 use Rattle.gaps.specs.declared.Run.{Run}
@@ -12,22 +12,14 @@ use Rattle.gaps.specs.Record.{record_of}
 use Rattle.seats.specs.Arrays.{Arrays}
 use Rattle.seats.specs.Channels.{put_in}
 use Rattle.seats.specs.Rules.{sound}
-use Rattle.seats.proofs.Heads.{sound-count, sound-mark, sound_kept, sound-least}
-use Rattle.joins.specs.Join.{Histories, Holds, both, alike, same_set_up, overfull, put_all, Outcome, join}
-use Rattle.joins.specs.Meet.{heads, met_at, CountsIn, FitsAll, joined_all}
+use Rattle.seats.proofs.Heads.{sound-count, sound_kept, sound-least}
+use Rattle.joins.specs.Join.{Histories, Holds, both, same_set_up, overfull, put_all, Outcome, join, JoinVerdict, answered}
+use Rattle.joins.specs.declared.Refusal.{Refusal}
+use Rattle.joins.specs.declared.Refusal.TheVariants.{TableFull, Malformed, SetUpsDiffer}
+use Rattle.std.specs.Prelude.{Ok, Err}
+use Rattle.joins.specs.Meet.{met_at, met_runs, CountsIn, FitsAll, joined_all, judged}
 use Rattle.joins.proofs.Meets.{met_record}
 use Rattle.joins.proofs.Pass.{one-count, one_head, over_none}
-
--- ---- set-ups
-
-alike-heads : (a b : Arrays) (i n : ℕ) → alike (heads a.count a.numbers a.from) (heads b.count b.numbers b.from) i n ≡ alike a b i n
-unfolding alike
-alike-heads a b i zero = refl
-alike-heads a b i (suc n) = rw (alike-heads a b (suc i) n)
-
-pub set_ups : (a b : Arrays) → same_set_up (heads a.count a.numbers a.from) (heads b.count b.numbers b.from) ≡ same_set_up a b
-unfolding same_set_up
-set_ups a b = rw (alike-heads a b 0 8)
 
 -- ---- one record for another
 
@@ -53,17 +45,13 @@ module _ {a b : Arrays} (k : Agreed a b) where
   pub counts_in : (a.count ≤ 8) × CountsIn a.counts a.count × CountsIn b.counts a.count
   counts_in = (sound-count a k.mine, λ i h. (sound_kept a k.mine i h).room, λ i h. (sound_kept b k.other i (omega (arith, one-count a b k.same))).room)
 
-  pub fits_all : overfull (λ (i : ℕ). (met_at a b i).runs) 0 a.count ≡ false →
-      FitsAll a.highest a.ended a.counts a.first a.last b.highest b.ended b.counts b.first b.last a.count
+  pub fits_all : overfull (met_runs a b) 0 a.count ≡ false → FitsAll a b a.count
   fits_all f i h =
-      let m : i < 8 = omega (arith, counts_in.0) in
       record {
-        place = m;
+        place = omega (arith, counts_in.0);
         count = counts_in.1 i h;
         other_count = counts_in.2 i h;
-        mark = sound-mark a k.mine i m;
-        other_mark = sound-mark b k.other i m;
-        room = over_none (λ (j : ℕ). (met_at a b j).runs) a.count i f h;
+        room = over_none (met_runs a b) a.count i f h;
         zero = (sound_kept a k.mine i h).zero;
       }
 
@@ -94,16 +82,50 @@ module _ {a b : Arrays} (k : Agreed a b) (g h : Histories) (x : Holds a g) (y : 
       met_record (g i) (h i) (sound-least a k.mine i m) (x k.mine i m)
       (y k.other i (omega (arith, one-count a b k.same)) ∙ ap (λ (n : ℕ). record_of n (h i)) (sym (one_head a b k.same i (omega (arith, sound-count a k.mine))).1))
 
-  same_runs : overfull (λ (i : ℕ). (met_at a b i).runs) 0 a.count ≡ overfull (λ (i : ℕ). (both a g h i).runs) 0 a.count
-  same_runs = over-same (λ (i : ℕ). (met_at a b i).runs) (λ (i : ℕ). (both a g h i).runs) 0 a.count (λ i e. ap (λ (c : Channel). c.runs) (met-both i e))
+  same_runs : overfull (met_runs a b) 0 a.count ≡ overfull (λ (i : ℕ). (both a g h i).runs) 0 a.count
+  same_runs = over-same (met_runs a b) (λ (i : ℕ). (both a g h i).runs) 0 a.count (λ i e. ap (λ (c : Channel). c.runs) (met-both i e))
 
-  pub join_9 : overfull (λ (i : ℕ). (met_at a b i).runs) 0 a.count ≡ true → refused_by a table_full ≡ join a b g h
+  pub join_9 : overfull (met_runs a b) 0 a.count ≡ true → refused_by a table_full ≡ join a b g h
   unfolding join guard
   join_9 f = rw (k.mine, k.other, k.same, sym same_runs ∙ f)
 
-  pub join-joined : overfull (λ (i : ℕ). (met_at a b i).runs) 0 a.count ≡ false → record { said = accepted tt; next = joined_all a.count a b } ≡ join a b g h
+  pub join-joined : overfull (met_runs a b) 0 a.count ≡ false → record { said = accepted tt; next = joined_all a.count a b } ≡ join a b g h
   unfolding join guard
   join-joined f = rw (k.mine, k.other, k.same, sym same_runs ∙ f) (ap joined (all_same a (met_at a b) (both a g h) 0 a.count met-both))
     where
       joined : Arrays → Outcome
       joined c = record { said = accepted tt; next = c }
+
+-- ---- the answer by the tests in their order
+
+-- a refusal: the first tracker as it stood
+pub refusal-judged : (a b : Arrays) (g h : Histories) → Holds a g → Holds b h → (v : JoinVerdict) (why : Refusal) → v ≡ Err why → v ≡ judged a b → answered v a ≡ join a b g h
+unfolding judged
+refusal-judged a b g h x y v why z e = go (sound a) refl (sound b) refl (same_set_up a b) refl (overfull (met_runs a b) 0 a.count) refl e
+  where
+    err_ok : ◌≡◌ {A = JoinVerdict} (Err why) (Ok tt) → ⊥
+    err_ok e = cc
+
+    go : (p : Bool) → sound a ≡ p → (q : Bool) → sound b ≡ q → (s : Bool) → same_set_up a b ≡ s → (f : Bool) → overfull (met_runs a b) 0 a.count ≡ f →
+        v ≡ cond (p && q) (cond s (cond f (Err TableFull) (Ok tt)) (Err SetUpsDiffer)) (Err Malformed) → answered v a ≡ join a b g h
+    go false p q d s i f j e = rw e (join_10 a b g h p)
+    go true p false q s i f j e = rw e (join_10_other a b g h p q)
+    go true p true q false s f j e = rw e (join_11 a b g h p q s)
+    go true p true q true s true f e = rw e (join_9 (record { mine = p; other = q; same = s }) g h x y f)
+    go true p true q true s false f e = absurd (err_ok (sym z ∙ e))
+
+-- no refusal: two sound trackers of one set-up, whose runs have room
+pub ok-judged : (a b : Arrays) (x : Unit) → judged a b ≡ Ok x → Agreed a b × (overfull (met_runs a b) 0 a.count ≡ false)
+unfolding judged
+ok-judged a b x e = go (sound a) refl (sound b) refl (same_set_up a b) refl (overfull (met_runs a b) 0 a.count) refl e
+  where
+    err_ok : (why : Refusal) → ◌≡◌ {A = JoinVerdict} (Err why) (Ok x) → ⊥
+    err_ok why e = cc
+
+    go : (p : Bool) → sound a ≡ p → (q : Bool) → sound b ≡ q → (s : Bool) → same_set_up a b ≡ s → (f : Bool) → overfull (met_runs a b) 0 a.count ≡ f →
+        cond (p && q) (cond s (cond f (Err TableFull) (Ok tt)) (Err SetUpsDiffer)) (Err Malformed) ≡ Ok x → Agreed a b × (overfull (met_runs a b) 0 a.count ≡ false)
+    go false p q d s i f j e = absurd (err_ok Malformed e)
+    go true p false q s i f j e = absurd (err_ok Malformed e)
+    go true p true q false s f j e = absurd (err_ok SetUpsDiffer e)
+    go true p true q true s true f e = absurd (err_ok TableFull e)
+    go true p true q true s false f e = (record { mine = p; other = q; same = s }, f)

@@ -9,6 +9,7 @@ use Rattle.gaps.specs.declared.Run.{Run}
 use Rattle.gaps.specs.Gaps.{run, larger, grow, fill}
 use Rattle.seats.specs.Places.{span}
 use Rattle.seats.proofs.Cells.{span-length}
+use Rattle.seats.specs.Arrays.{Arrays}
 use Rattle.joins.specs.Meet.{smaller, shared, meet, met_in, met_runs}
 
 shared-few : (r s : Run) → length (shared r s) ≤ 1
@@ -51,17 +52,17 @@ fill-few l h m = go (leb m h)
     go true = omega arith
     go false = grow-few l h m
 
-pub few-met : (h c f l h' c' f' l' : List ℕ) (i : ℕ) → get_or c i 0 + get_or c' i 0 + 2 ≤ 32 → length (met_runs h c f l h' c' f' l' i) ≤ 32
+pub few-met : (a b : Arrays) (i : ℕ) → get_or a.counts i 0 + get_or b.counts i 0 + 2 ≤ 32 → length (met_runs a b i) ≤ 32
 unfolding met_in
-few-met h c f l h' c' f' l' i p =
-    let top = larger (get_or h i 0) (get_or h' i 0) in
-    let x = fill (span f l (i * 32) (get_or c i 0)) (get_or h i 0) top in
-    let y = fill (span f' l' (i * 32) (get_or c' i 0)) (get_or h' i 0) top in
+few-met a b i p =
+    let top = larger (get_or a.highest i 0) (get_or b.highest i 0) in
+    let x = fill (span a.first a.last (i * 32) (get_or a.counts i 0)) (get_or a.highest i 0) top in
+    let y = fill (span b.first b.last (i * 32) (get_or b.counts i 0)) (get_or b.highest i 0) top in
     omega (
       arith,
       meet-few (length x + length y) x y,
-      fill-few (span f l (i * 32) (get_or c i 0)) (get_or h i 0) top,
-      fill-few (span f' l' (i * 32) (get_or c' i 0)) (get_or h' i 0) top,
-      span-length f l (i * 32) (get_or c i 0),
-      span-length f' l' (i * 32) (get_or c' i 0),
+      fill-few (span a.first a.last (i * 32) (get_or a.counts i 0)) (get_or a.highest i 0) top,
+      fill-few (span b.first b.last (i * 32) (get_or b.counts i 0)) (get_or b.highest i 0) top,
+      span-length a.first a.last (i * 32) (get_or a.counts i 0),
+      span-length b.first b.last (i * 32) (get_or b.counts i 0),
     )

@@ -2,48 +2,22 @@
 use Prim.Native.Nat.{ℕ, zero, suc, ◌+◌, ◌-◌, ◌≤◌, ◌<◌}
 use native.Mathlib.Omega.{arith}
 use native.Mathlib.Numerals.{add-one}
-use mathlib.Core.Path.{◌≡◌, refl}
+use mathlib.Core.Path.{◌≡◌, refl, sym, ◌∙◌}
 use mathlib.Core.Logic.{◌⊎◌, inl, inr}
 use mathlib.Core.List.{List}
 use mathlib.Core.Bool.{Bool, true, false, true≢false, false≢true, ◌&&◌, ◌||◌}
 use lib.Dec.{ltb, eqb}
 use lib.ListN.{length, get_or}
-use borrow.Author.Tests.{ltb-true, ltb-false, lt-ltb, le-ltb, eqb-true, eq-eqb, ne_eqb}
+use borrow.Author.Tests.{ltb-true, ltb-false, lt-ltb, le-ltb, eqb-true, eq-eqb}
 use Rattle.gaps.specs.declared.Run.{Run}
 use Rattle.gaps.proofs.Numbers.{and_split, or_split}
 use Rattle.seats.specs.Arrays.{Arrays}
+use Rattle.std.specs.Cmp.Lexicographic.{pointwise, same_text, other_text}
+use Rattle.std.specs.Prelude.{nat_eq}
+use Rattle.std.proofs.lemmas.List.{ext_get_or}
 use Rattle.joins.specs.Join.{alike, same_set_up, overfull}
 
 -- ---- set-ups
-
-module _ (a b : Arrays) where
-  pub counts_differ : (a.count ≡ b.count → ⊥) → same_set_up a b ≡ false
-  unfolding same_set_up
-  counts_differ p = rw (ne_eqb a.count b.count p)
-
-  pub counts_same : a.count ≡ b.count → same_set_up a b ≡ alike a b 0 8
-  unfolding same_set_up
-  counts_same e = rw (eq-eqb a.count b.count e)
-
-module _ (a b : Arrays) (i to : ℕ) where
-  alike-more : i < to → alike a b i (to - i) ≡
-      (eqb (get_or a.numbers i 0) (get_or b.numbers i 0) && (eqb (get_or a.from i 0) (get_or b.from i 0) && alike a b (i + 1) (to - (i + 1))))
-  unfolding alike
-  alike-more h = let e : to - i ≡ suc (to - (i + 1)) = omega arith in rw (e, add-one)
-
-  pub alike-number : i < to → (get_or a.numbers i 0 ≡ get_or b.numbers i 0 → ⊥) → alike a b i (to - i) ≡ false
-  alike-number h p = rw (alike-more h, ne_eqb (get_or a.numbers i 0) (get_or b.numbers i 0) p)
-
-  module _ (h : i < to) (n : get_or a.numbers i 0 ≡ get_or b.numbers i 0) where
-    pub alike_from : (get_or a.from i 0 ≡ get_or b.from i 0 → ⊥) → alike a b i (to - i) ≡ false
-    alike_from p = rw (alike-more h, eq-eqb (get_or a.numbers i 0) (get_or b.numbers i 0) n, ne_eqb (get_or a.from i 0) (get_or b.from i 0) p)
-
-    pub alike_pass : get_or a.from i 0 ≡ get_or b.from i 0 → alike a b i (to - i) ≡ alike a b (i + 1) (to - (i + 1))
-    alike_pass p = rw (alike-more h, eq-eqb (get_or a.numbers i 0) (get_or b.numbers i 0) n, eq-eqb (get_or a.from i 0) (get_or b.from i 0) p)
-
-  pub alike_end : to ≤ i → alike a b i (to - i) ≡ true
-  unfolding alike
-  alike_end h = let e : to - i ≡ 0 = omega arith in rw e
 
 alike_at : (a b : Arrays) (i n j : ℕ) → alike a b i n ≡ true → j < n →
     (get_or a.numbers (i + j) 0 ≡ get_or b.numbers (i + j) 0) × (get_or a.from (i + j) 0 ≡ get_or b.from (i + j) 0)
@@ -59,6 +33,34 @@ alike_at a b i (suc n) (suc j) e h =
     let p = and_split (eqb (get_or a.numbers i 0) (get_or b.numbers i 0)) _ e in
     let q = and_split (eqb (get_or a.from i 0) (get_or b.from i 0)) _ p.1 in
     rw g (alike_at a b (suc i) n j q.1 (omega arith))
+
+alike_same : (a b : Arrays) (i n : ℕ) → a.numbers ≡ b.numbers → a.from ≡ b.from → alike a b i n ≡ true
+unfolding alike
+alike_same a b i zero e f = refl
+alike_same a b i (suc n) e f =
+    rw (e, f, eq-eqb (get_or b.numbers i 0) (get_or b.numbers i 0) refl, eq-eqb (get_or b.from i 0) (get_or b.from i 0) refl) (alike_same a b (suc i) n e f)
+
+-- lists of eight are the same where their places are
+alike-lists : (a b : Arrays) → length a.numbers ≡ 8 → length b.numbers ≡ 8 → length a.from ≡ 8 → length b.from ≡ 8 → alike a b 0 8 ≡ true →
+    (a.numbers ≡ b.numbers) × (a.from ≡ b.from)
+alike-lists a b n n' f f' e = (
+  ext_get_or 0 a.numbers b.numbers (omega arith) (λ i h. let g : 0 + i ≡ i = omega arith in rw g at (alike_at a b 0 8 i e (omega arith)).0),
+  ext_get_or 0 a.from b.from (omega arith) (λ i h. let g : 0 + i ≡ i = omega arith in rw g at (alike_at a b 0 8 i e (omega arith)).1),
+)
+
+-- the set-ups by their lists
+pub alike-by : (a b : Arrays) → length a.numbers ≡ 8 → length b.numbers ≡ 8 → length a.from ≡ 8 → length b.from ≡ 8 → (p q r : Bool) →
+    p ≡ eqb a.count b.count → q ≡ pointwise nat_eq a.numbers b.numbers → r ≡ pointwise nat_eq a.from b.from → (p && q && r) ≡ same_set_up a b
+unfolding same_set_up
+alike-by a b n n' f f' p q r x y z = rw (sym x) (go p q r y z (alike a b 0 8) refl)
+  where
+    go : (p q r : Bool) → q ≡ pointwise nat_eq a.numbers b.numbers → r ≡ pointwise nat_eq a.from b.from → (t : Bool) → alike a b 0 8 ≡ t → (p && q && r) ≡ (p && t)
+    go false q r y z t e = refl
+    go true true true y z t e = sym (alike_same a b 0 8 (same_text a.numbers b.numbers y) (same_text a.from b.from z)) ∙ e
+    go true false r y z true e = absurd (other_text a.numbers b.numbers y (alike-lists a b n n' f f' e).0)
+    go true true false y z true e = absurd (other_text a.from b.from z (alike-lists a b n n' f f' e).1)
+    go true false r y z false e = refl
+    go true true false y z false e = refl
 
 -- one set-up, place by place
 module _ (a b : Arrays) (s : same_set_up a b ≡ true) where

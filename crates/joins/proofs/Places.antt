@@ -105,12 +105,8 @@ module _ (a b : Arrays) (i : ℕ) (f : (j : ℕ) → j < i → length (met_at a 
       q ∙ ap (λ (c : Arrays). joined_at i c b) p ∙ ap (λ (c : Channel). put_in (joined_all i a b) i (met c (channel_in b i))) (rest_channel joined_rest) ∙ sym l ∙ ap (λ (n : ℕ). joined_all n a b) (sym (add-one i))
 
 -- the next channel fits as it did at first
-pub joined_fits : {h e c f l h' e' c' f' l' h₀ e₀ c₀ f₀ l₀ : List ℕ} {i : ℕ} →
-    arrays 0 [] [] h e c f l ≡ joined_all i (arrays 0 [] [] h₀ e₀ c₀ f₀ l₀) (arrays 0 [] [] h' e' c' f' l') →
-    FitsAll h₀ e₀ c₀ f₀ l₀ h' e' c' f' l' (i + 1) → FitsAt h e c f l h' e' c' f' l' i
-joined_fits {f = f} {l = l} {h' = h'} {e' = e'} {c' = c'} {f' = f'} {l' = l'} {h₀ = h₀} {e₀ = e₀} {c₀ = c₀} {f₀ = f₀} {l₀ = l₀} {i = i} q fits =
-    let a = arrays 0 [] [] h₀ e₀ c₀ f₀ l₀ in
-    let b = arrays 0 [] [] h' e' c' f' l' in
+pub joined_fits : {a b c : Arrays} {i : ℕ} → c ≡ joined_all i a b → FitsAll a b (i + 1) → FitsAt c b i
+joined_fits {a} {b} {c} {i} q fits =
     let x = joined_rest a b i (λ j p. (fits j (omega arith)).room) in
     let k = fits i (omega arith) in
     let same = subst (λ (y : Arrays). Rest y a i) (sym q) x in
@@ -118,8 +114,6 @@ joined_fits {f = f} {l = l} {h' = h'} {e' = e'} {c' = c'} {f' = f'} {l' = l'} {h
       place = k.place;
       count = rw (same.counts i (omega arith)) k.count;
       other_count = k.other_count;
-      mark = rw (same.ended i (omega arith)) k.mark;
-      other_mark = k.other_mark;
       room = subst (λ (d : Channel). length (met d (channel_in b i)).runs ≤ 32) (sym (rest_channel same)) k.room;
-      zero = rw (same.counts i (omega arith), span_same f l f₀ l₀ (i * 32 + get_or c₀ i 0) (32 - get_or c₀ i 0) (λ p z. same.first p (omega arith)) (λ p z. same.last p (omega arith))) k.zero;
+      zero = rw (same.counts i (omega arith), span_same c.first c.last a.first a.last (i * 32 + get_or a.counts i 0) (32 - get_or a.counts i 0) (λ p z. same.first p (omega arith)) (λ p z. same.last p (omega arith))) k.zero;
     }

@@ -1,23 +1,24 @@
 -- The walk over two rows: what is reached, and one step more.
-use Prim.Native.Nat.{ℕ, zero, suc, ◌+◌, ◌-◌, ◌≤◌, ◌<◌}
+use Prim.Native.Nat.{ℕ, zero, suc, ◌+◌, ◌-◌, ◌≤◌, ◌<◌, min, max}
+use native.Mathlib.Nat.{le-max_left, le-max_right, max-eq_left, max-eq_right, min-eq_left, min-eq_right, le_of_lt}
 use native.Mathlib.Omega.{arith}
 use native.Mathlib.Numerals.{add-one}
 use mathlib.Core.Path.{◌≡◌, refl, ap, sym, ◌∙◌}
-use mathlib.Core.Logic.{⊎_elim}
+use mathlib.Core.Logic.{inl, inr, ⊎_elim}
 use mathlib.Core.List.{List, [], ◌∷◌, ◌++◌}
 use mathlib.Core.Bool.{Bool, true, false, cond}
 use lib.Dec.{leb, eqb}
-use lib.ListN.{length, drop, get_or, set, drop_of_length-le, length-append, get_or-append}
+use lib.ListN.{length, drop, get_or, drop_of_length-le, length-append, get_or-append}
 use lib.Seq.{get_or_at, drop-cons}
-use borrow.Author.Tests.{le-leb, lt-leb, lt-ltb, le-ltb, eqb-true, eqb-false, ne_eqb}
+use borrow.Author.Tests.{le-leb, lt-leb, eqb-true, eqb-false, ne_eqb}
 use Rattle.gaps.specs.declared.Run.{Run}
 use Rattle.gaps.specs.Gaps.{run, larger, grow, fill}
 use Rattle.gaps.proofs.Grow.{grow-apart, grow_touch}
-use Rattle.gaps.proofs.Numbers.{lt_or_le}
+use Rattle.gaps.proofs.Numbers.{lt_or_le, larger-is}
 use Rattle.seats.specs.Places.{span}
 use Rattle.seats.proofs.Cells.{span-length, span-at, span_last}
 use Rattle.joins.specs.declared.walk.Reach.{Reach}
-use Rattle.joins.specs.Meet.{smaller, shared, meet, met_in, run_at, Reaches, Laid, laid, laid_one, laid_all}
+use Rattle.joins.specs.Meet.{smaller, shared, meet, met_in, run_at, Reaches, Laid, laid_one, laid_all}
 
 -- ---- what is reached
 
@@ -78,27 +79,33 @@ module _ (f l : List ℕ) (b n h m : ℕ) (small : n ≤ 32) where
 
 -- ---- what two runs share is laid
 
-module _ (k : ℕ) (f l : List ℕ) (r s : Run) (a e : ℕ) (p : a ≡ larger r.first s.first) (q : e ≡ smaller r.last s.last) where
-  pub put-none : e < a → laid k f l ≡ laid_all (laid k f l) (shared r s)
+-- the library's larger and smaller of two numbers
+pub max-larger : (a b : ℕ) → max a b ≡ larger a b
+max-larger a b = sym (larger-is a b (max a b) (le-max_left a b) (le-max_right a b) (⊎_elim (λ h. inl (max-eq_left (le_of_lt h))) (λ h. inr (max-eq_right h)) (lt_or_le b a)))
+
+pub min-smaller : (a b : ℕ) → min a b ≡ smaller a b
+unfolding smaller
+min-smaller a b = ⊎_elim (λ h. min-eq_right (le_of_lt h) ∙ rw (lt-leb a b h)) (λ h. min-eq_left h ∙ rw (le-leb a b h)) (lt_or_le b a)
+
+module _ (p : Laid) (r s : Run) (a e : ℕ) (x : a ≡ max r.first s.first) (y : e ≡ min r.last s.last) where
+  first_is : larger r.first s.first ≡ a
+  first_is = sym (x ∙ max-larger r.first s.first)
+
+  last_is : smaller r.last s.last ≡ e
+  last_is = sym (y ∙ min-smaller r.last s.last)
+
+  pub put-none : e < a → p ≡ laid_all p (shared r s)
   unfolding shared laid_all
-  put-none h = let t = lt-leb (larger r.first s.first) (smaller r.last s.last) (omega arith) in rw t
+  put-none h = let t = lt-leb a e h in rw (first_is, last_is, t)
 
-  one : a ≤ e → laid_one (laid k f l) (run a e) ≡ laid_all (laid k f l) (shared r s)
+  pub put_one : a ≤ e → laid_one p (run a e) ≡ laid_all p (shared r s)
   unfolding shared laid_all
-  one h = let t = le-leb (larger r.first s.first) (smaller r.last s.last) (omega arith) in rw (t, p, q)
+  put_one h = let t = le-leb a e h in rw (first_is, last_is, t)
 
-  pub put_some : a ≤ e → k < 32 → laid (k + 1) (set f k a) (set l k e) ≡ laid_all (laid k f l) (shared r s)
-  unfolding laid_one
-  put_some h m = let t = lt-ltb k 32 m in let w : laid (k + 1) (set f k a) (set l k e) ≡ laid_one (laid k f l) (run a e) = rw t in w ∙ one h
-
-  pub put_full : a ≤ e → 32 ≤ k → laid (k + 1) f l ≡ laid_all (laid k f l) (shared r s)
-  unfolding laid_one
-  put_full h m = let t = le-ltb k 32 m in let w : laid (k + 1) f l ≡ laid_one (laid k f l) (run a e) = rw t in w ∙ one h
-
--- the same where none has a place
-pub put-more : (k : ℕ) (r s : Run) (a e : ℕ) → a ≡ larger r.first s.first → e ≡ smaller r.last s.last → a ≤ e →
-    laid (k + 1) [] [] ≡ laid_all (laid k [] []) (shared r s)
-put-more k r s a e p q h = ⊎_elim (λ m. put_some k [] [] r s a e p q h m) (λ m. put_full k [] [] r s a e p q h m) (lt_or_le k 32)
+-- one run more is counted
+pub one-more : (p : Laid) (r : Run) → (laid_one p r).count ≡ p.count + 1
+unfolding laid_one
+one-more p r = refl
 
 -- ---- one step
 
@@ -130,13 +137,13 @@ pub record Walking (x y : List Run) (n m : ℕ) (p q : ℕ → Run) (i j : ℕ) 
   pub rest : laid_all out (meet (n - i + (m - j)) (drop i x) (drop j y)) ≡ w
 
 -- at first
-pub walking : {x y : List Run} {n m : ℕ} {p q : ℕ → Run} {f l : List ℕ} → n ≡ length x → m ≡ length y →
+pub walking : {x y : List Run} {n m : ℕ} {p q : ℕ → Run} {out : Laid} → out.count ≡ 0 → n ≡ length x → m ≡ length y →
     ((a : ℕ) → a < n → get_or x a (run 0 0) ≡ p a) → ((a : ℕ) → a < m → get_or y a (run 0 0) ≡ q a) →
-    Walking x y n m p q 0 0 (laid 0 f l) (laid_all (laid 0 f l) (met_in x y))
+    Walking x y n m p q 0 0 out (laid_all out (met_in x y))
 unfolding met_in
-walking {x} {y} {n} {m} a c d e =
+walking {x} {y} {n} {m} o a c d e =
     let z : n - 0 + (m - 0) ≡ length x + length y = omega arith in
-    record { size = a; other_size = c; runs = d; other_runs = e; left = omega arith; right = omega arith; few = omega arith; rest = rw z }
+    record { size = a; other_size = c; runs = d; other_runs = e; left = omega arith; right = omega arith; few = omega (arith, o); rest = rw z }
 
 module _ {x y : List Run} {n m : ℕ} {p q : ℕ → Run} {i j : ℕ} {out w : Laid} (k : Walking x y n m p q i j out w) where
   pub left_over : n ≤ i → out ≡ w

@@ -1,9 +1,9 @@
 -- A join has one answer: every tracker holds histories, and which of them are taken makes no difference.
-use Prim.Native.Nat.{ℕ}
 use mathlib.Core.Path.{◌≡◌, refl, ap, sym, ◌∙◌}
 use mathlib.Core.List.{[]}
 use mathlib.Core.Bool.{Bool, true, false, not, cond}
 use lib.Dec.{eqb}
+use Rattle.std.specs.Prelude.{Ok, Err}
 use Rattle.wire.specs.Answer.{Answer, accepted, refused, guard}
 use Rattle.wire.specs.Refusal.{table_full, malformed, set_ups_differ}
 use Rattle.gaps.proofs.Record.{told, told_record}
@@ -11,10 +11,9 @@ use Rattle.seats.specs.Arrays.{Arrays}
 use Rattle.seats.specs.Channels.{channel_in}
 use Rattle.seats.specs.Rules.{sound}
 use Rattle.seats.proofs.Heads.{sound_kept, sound-least}
-use Rattle.joins.specs.Join.{Histories, Holds, same_set_up, overfull, Outcome, settled, join, Joins, join_said, answered}
-use Rattle.joins.specs.Meet.{met_at, joined_all}
-use Rattle.joins.specs.declared.JoinVerdict.{JoinVerdict}
-use Rattle.joins.specs.declared.JoinVerdict.TheVariants.{Joined, TableFull, Malformed, SetUpsDiffer}
+use Rattle.joins.specs.Join.{Histories, Holds, same_set_up, overfull, Outcome, settled, join, Joins, JoinVerdict, join_said, answered}
+use Rattle.joins.specs.Meet.{met_runs, joined_all}
+use Rattle.joins.specs.declared.Refusal.TheVariants.{TableFull, Malformed, SetUpsDiffer}
 use Rattle.joins.proofs.Both.{join_10, join_10_other, join_11, join_9, join-joined}
 
 -- ---- every tracker holds histories
@@ -36,13 +35,13 @@ tested p q s f joined =
 
 -- the join by the walk over the stored runs
 abbrev pub walked : Arrays → Arrays → Outcome
-walked a b = settled a (tested (sound a) (sound b) (same_set_up a b) (overfull (λ (i : ℕ). (met_at a b i).runs) 0 a.count) (joined_all a.count a b))
+walked a b = settled a (tested (sound a) (sound b) (same_set_up a b) (overfull (met_runs a b) 0 a.count) (joined_all a.count a b))
 
 pub join-walked : (a b : Arrays) (g h : Histories) → Holds a g → Holds b h → walked a b ≡ join a b g h
 unfolding guard
-join-walked a b g h x y = go (sound a) refl (sound b) refl (same_set_up a b) refl (overfull (λ (i : ℕ). (met_at a b i).runs) 0 a.count) refl
+join-walked a b g h x y = go (sound a) refl (sound b) refl (same_set_up a b) refl (overfull (met_runs a b) 0 a.count) refl
   where
-    go : (p : Bool) → sound a ≡ p → (q : Bool) → sound b ≡ q → (s : Bool) → same_set_up a b ≡ s → (f : Bool) → overfull (λ (i : ℕ). (met_at a b i).runs) 0 a.count ≡ f →
+    go : (p : Bool) → sound a ≡ p → (q : Bool) → sound b ≡ q → (s : Bool) → same_set_up a b ≡ s → (f : Bool) → overfull (met_runs a b) 0 a.count ≡ f →
         settled a (tested p q s f (joined_all a.count a b)) ≡ join a b g h
     go false p q d s e f i = join_10 a b g h p
     go true p false q s e f i = join_10_other a b g h p q
@@ -60,20 +59,20 @@ one_outcome a b r s p q = p (told_in a) (told_in b) (holds_told a) (holds_told b
 
 -- the code's answer that a refusal's number names
 unfoldable pub named : Answer Unit → JoinVerdict
-named (accepted x) = Joined
-named (refused n v) = cond (eqb n table_full) TableFull (cond (eqb n set_ups_differ) SetUpsDiffer Malformed)
+named (accepted x) = Ok x
+named (refused n v) = Err (cond (eqb n table_full) TableFull (cond (eqb n set_ups_differ) SetUpsDiffer Malformed))
 
 named-said : (v : JoinVerdict) → named (join_said v) ≡ v
 unfolding named
-named-said Joined = refl
-named-said TableFull = refl
-named-said Malformed = refl
-named-said SetUpsDiffer = refl
+named-said (Ok x) = refl
+named-said (Err TableFull) = refl
+named-said (Err Malformed) = refl
+named-said (Err SetUpsDiffer) = refl
 
 -- every outcome is one of the code's
 pub said-walked : (a b : Arrays) → join_said (named (walked a b).said) ≡ (walked a b).said
 unfolding named guard
-said-walked a b = go (sound a) (sound b) (same_set_up a b) (overfull (λ (i : ℕ). (met_at a b i).runs) 0 a.count)
+said-walked a b = go (sound a) (sound b) (same_set_up a b) (overfull (met_runs a b) 0 a.count)
   where
     go : (p q s f : Bool) → join_said (named (settled a (tested p q s f (joined_all a.count a b))).said) ≡ (settled a (tested p q s f (joined_all a.count a b))).said
     go false q s f = refl

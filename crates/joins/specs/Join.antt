@@ -1,17 +1,18 @@
 -- Two trackers joined, by the histories that they hold.
-use Rattle.std.specs.Prelude.{ℕ, zero, suc, ◌<◌, ◌≡◌, List, [], ◌++◌, Bool, true, false, not, ◌&&◌, ◌||◌, ltb, eqb, length, get_or}
+use Rattle.std.specs.Prelude.{ℕ, zero, suc, ◌<◌, ◌≡◌, List, [], ◌++◌, Bool, true, false, not, ◌&&◌, ◌||◌, ltb, eqb, length, get_or, Result, Ok, Err}
 use Rattle.wire.specs.Answer.{Answer, accepted, refused, guard}
 use Rattle.wire.specs.Refusal.{table_full, malformed, set_ups_differ}
 use Rattle.gaps.specs.declared.Run.{Run}
 use Rattle.gaps.specs.Limits.{run_limit}
 use Rattle.gaps.specs.Channel.{Channel, Event}
 use Rattle.gaps.specs.Record.{record_of}
+use Rattle.seats.specs.declared.FieldsMut.{FieldsMut}
 use Rattle.seats.specs.Arrays.{Arrays}
 use Rattle.seats.specs.Places.{channel_limit}
 use Rattle.seats.specs.Channels.{channel_in, put_in}
 use Rattle.seats.specs.Rules.{sound}
-use Rattle.joins.specs.declared.JoinVerdict.{JoinVerdict}
-use Rattle.joins.specs.declared.JoinVerdict.TheVariants.{Joined, TableFull, Malformed, SetUpsDiffer}
+use Rattle.joins.specs.declared.Refusal.{Refusal}
+use Rattle.joins.specs.declared.Refusal.TheVariants.{TableFull, Malformed, SetUpsDiffer}
 
 -- ---- the histories that a tracker holds
 
@@ -26,6 +27,12 @@ Holds a g = sound a ≡ true → (i : ℕ) → i < a.count → channel_in a i �
 -- T14: the record of both histories of the channel at place i, one after the other
 abbrev pub both : Arrays → Histories → Histories → ℕ → Channel
 both a g h i = record_of (get_or a.from i 0) (g i ++ h i)
+
+-- ---- a tracker's fields lent to be written
+
+-- their channels are the same: how many, and the numbers and first numbers, which are lent to be read alone
+abbrev pub SameChannels : FieldsMut → FieldsMut → Type 0
+SameChannels f g = (g.count ≡ f.count) × (g.numbers ≡ f.numbers) × (g.from ≡ f.from)
 
 -- ---- the refusals
 
@@ -75,12 +82,16 @@ join a b g h =
 abbrev pub Joins : Arrays → Arrays → Outcome → Type 0
 Joins a b r = (g h : Histories) → Holds a g → Holds b h → r ≡ join a b g h
 
+-- what a join is answered by the code
+abbrev pub JoinVerdict : Type 0
+JoinVerdict = Result Unit Refusal
+
 -- the number and values for each case of the code's answer
 abbrev pub join_said : JoinVerdict → Answer Unit
-join_said Joined = accepted tt
-join_said TableFull = refused table_full []
-join_said Malformed = refused malformed []
-join_said SetUpsDiffer = refused set_ups_differ []
+join_said (Ok x) = accepted tt
+join_said (Err TableFull) = refused table_full []
+join_said (Err Malformed) = refused malformed []
+join_said (Err SetUpsDiffer) = refused set_ups_differ []
 
 -- what an answer says, with the arrays of the first tracker behind it
 abbrev pub answered : JoinVerdict → Arrays → Outcome

@@ -1,15 +1,16 @@
 -- The runs of two records joined, by one walk over the two lists: what the private functions of the crate promise to one another.
-use Rattle.std.specs.Prelude.{ℕ, zero, suc, ◌+◌, ◌*◌, ◌-◌, ◌<◌, ◌≤◌, ◌≡◌, List, [], ◌∷◌, ◌++◌, true, cond, ◌||◌, ltb, leb, eqb, length, get_or, set}
+use Rattle.std.specs.Prelude.{ℕ, zero, suc, ◌+◌, ◌*◌, ◌-◌, ◌<◌, ◌≤◌, ◌≡◌, List, [], ◌∷◌, ◌++◌, true, cond, ◌&&◌, ◌||◌, ltb, leb, eqb, length, get_or, set, Ok, Err}
 use Rattle.std.proofs.lemmas.List.Edits.{sets}
 use Rattle.gaps.specs.declared.Run.{Run}
 use Rattle.gaps.specs.Gaps.{run, larger, fill}
 use Rattle.gaps.specs.Limits.{run_limit}
 use Rattle.gaps.specs.Channel.{Channel}
-use Rattle.seats.specs.Arrays.{Arrays, arrays, Passed, PassedMut}
+use Rattle.seats.specs.Arrays.{Arrays}
 use Rattle.seats.specs.Places.{channel_limit, span}
 use Rattle.seats.specs.Channels.{channel_in, put_in}
-use Rattle.seats.specs.Rules.{all_zero}
-use Rattle.joins.specs.Join.{put_all}
+use Rattle.seats.specs.Rules.{all_zero, sound}
+use Rattle.joins.specs.Join.{same_set_up, overfull, put_all, JoinVerdict}
+use Rattle.joins.specs.declared.Refusal.TheVariants.{TableFull, Malformed, SetUpsDiffer}
 use Rattle.joins.specs.declared.walk.Reach.{Reach}
 
 -- ---- one channel
@@ -55,24 +56,17 @@ met_at a b i = met (channel_in a i) (channel_in b i)
 
 -- ---- the channels of two trackers, in their arrays
 
--- what a set-up fills, alone
-abbrev pub heads : ℕ → List ℕ → List ℕ → Arrays
-heads count numbers from = arrays count numbers from [] [] [] [] []
-
 -- the runs of the channel at place i, joined
-abbrev pub met_runs : (highest counts first last highest' counts' first' last' : List ℕ) → ℕ → List Run
-met_runs highest counts first last highest' counts' first' last' i =
-    (met_at (arrays 0 [] [] highest [] counts first last) (arrays 0 [] [] highest' [] counts' first' last') i).runs
+abbrev pub met_runs : Arrays → Arrays → ℕ → List Run
+met_runs a b i = (met_at a b i).runs
 
--- T2, T4: at place i are counts of runs and ended marks that keep the rules, room for the runs joined, and zero behind those that stand
-pub record FitsAt (highest ended counts first last highest' ended' counts' first' last' : List ℕ) (i : ℕ) : Type 0 where
+-- T2, T4: at place i are counts of runs that keep the rules, room for the runs joined, and zero behind those that stand
+pub record FitsAt (a b : Arrays) (i : ℕ) : Type 0 where
   pub place : i < channel_limit
-  pub count : get_or counts i 0 ≤ run_limit
-  pub other_count : get_or counts' i 0 ≤ run_limit
-  pub mark : get_or ended i 0 ≤ 1
-  pub other_mark : get_or ended' i 0 ≤ 1
-  pub room : length (met_runs highest counts first last highest' counts' first' last' i) ≤ run_limit
-  pub zero : all_zero (span first last (i * run_limit + get_or counts i 0) (run_limit - get_or counts i 0)) ≡ true
+  pub count : get_or a.counts i 0 ≤ run_limit
+  pub other_count : get_or b.counts i 0 ≤ run_limit
+  pub room : length (met_runs a b i) ≤ run_limit
+  pub zero : all_zero (span a.first a.last (i * run_limit + get_or a.counts i 0) (run_limit - get_or a.counts i 0)) ≡ true
 
 -- with no run, a row's numbers are what stands in its places
 abbrev pub SameIfNone : ℕ → List ℕ → ℕ → List ℕ → Type 0
@@ -83,17 +77,8 @@ abbrev pub CountsIn : List ℕ → ℕ → Type 0
 CountsIn counts n = (i : ℕ) → i < n → get_or counts i 0 ≤ run_limit
 
 -- of the first n places
-abbrev pub FitsAll : (highest ended counts first last highest' ended' counts' first' last' : List ℕ) → ℕ → Type 0
-FitsAll highest ended counts first last highest' ended' counts' first' last' n =
-    (i : ℕ) → i < n → FitsAt highest ended counts first last highest' ended' counts' first' last' i
-
--- these arrays become those of another tracker, whatever the counts of channels, their numbers and first numbers
-abbrev pub Becomes : (Arrays → Arrays → Arrays) → (highest ended counts first last : PassedMut) (highest' ended' counts' first' last' : Passed) → Type 0
-Becomes next highest ended counts first last highest' ended' counts' first' last' =
-    (count count' : ℕ) (numbers from numbers' from' : List ℕ) →
-    arrays count numbers from highest.exit.now ended.exit.now counts.exit.now first.exit.now last.exit.now ≡
-    next (arrays count numbers from highest.entry.now ended.entry.now counts.entry.now first.entry.now last.entry.now)
-    (arrays count' numbers' from' highest'.entry.now ended'.entry.now counts'.entry.now first'.entry.now last'.entry.now)
+abbrev pub FitsAll : Arrays → Arrays → ℕ → Type 0
+FitsAll a b n = (i : ℕ) → i < n → FitsAt a b i
 
 -- with the channel at place i joined, and with the first n
 abbrev pub joined_at : ℕ → Arrays → Arrays → Arrays
@@ -101,6 +86,11 @@ joined_at i a b = put_in a i (met_at a b i)
 
 abbrev pub joined_all : ℕ → Arrays → Arrays → Arrays
 joined_all n a b = put_all a (met_at a b) 0 n
+
+-- R9, R10, R11: what a join of two trackers is answered
+unfoldable pub judged : Arrays → Arrays → JoinVerdict
+judged a b =
+    cond (sound a && sound b) (cond (same_set_up a b) (cond (overfull (met_runs a b) 0 a.count) (Err TableFull) (Ok tt)) (Err SetUpsDiffer)) (Err Malformed)
 
 -- ---- the walk
 

@@ -1,134 +1,81 @@
 // Two trackers' arrays joined: what either received is received, and a refused join changes nothing.
 #![tactic(auto)]
 
-ghost use Rattle.std.specs.Prelude.{◌≡◌};
-ghost use Rattle.seats.specs.Arrays.{at_entry, at_end, at_entry_mut, at_end_mut};
+ghost use Rattle.std.specs.Prelude.{◌≡◌, Err, length};
 ghost use Rattle.wire.specs.Number.{answer_number};
-ghost use Rattle.joins.specs.Join.{same_set_up, Joins, join_said, answered};
-ghost use Rattle.joins.specs.Meet.{heads};
+ghost use Rattle.seats.specs.Arrays.{held, held_mut, SamePlaces};
+ghost use Rattle.std.specs.Cmp.Lexicographic.{pointwise};
+ghost use Rattle.seats.specs.Places.{channel_limit};
+ghost use Rattle.joins.specs.Join.{SameChannels, same_set_up, Joins, join_said, answered};
+ghost use Rattle.joins.specs.Meet.{judged};
 
 use laying::{fits, lay_all};
-use seats::{Seat, sound};
+use seats::{Fields, FieldsMut, Seat};
 use wire::answers;
 
 mod laying;
 mod walk;
 
-// What a join is answered.
-#[derive(Clone, Copy)]
-pub enum JoinVerdict {
-    Joined,
+// Why a join is refused.
+#[derive(Clone, Copy, Debug, PartialEq, Eq)]
+pub enum Refusal {
     TableFull,
     Malformed,
     SetUpsDiffer,
 }
 
-impl JoinVerdict {
-    // The refusal's number; the plain answer's where it is none.
-    pub fn number(self) -> u32
-        ensures { result ≡ answer_number (join_said self) }
-    {
-        match self {
-            JoinVerdict::Joined => answers::PLAIN,
-            JoinVerdict::TableFull => answers::TABLE_FULL,
-            JoinVerdict::Malformed => answers::MALFORMED,
-            JoinVerdict::SetUpsDiffer => answers::SET_UPS_DIFFER,
+// The refusal's number.
+impl From<Refusal> for u32 {
+    ghost from_gives = { λ why n. n ≡ answer_number (join_said (Err why)) };
+
+    fn from(why: Refusal) -> u32 {
+        match why {
+            Refusal::TableFull => answers::TABLE_FULL,
+            Refusal::Malformed => answers::MALFORMED,
+            Refusal::SetUpsDiffer => answers::SET_UPS_DIFFER,
         }
     }
+}
+
+// Are the numbers of two trackers' channels the same, place by place? As many as these are there, which the proof doesn't see in a struct's fields.
+fn same<T: PartialEq>(a: &[T; Seat::COUNT], b: &[T; Seat::COUNT]) -> bool
+    ensures { (length a.now ≡ channel_limit) × (length b.now ≡ channel_limit) × (result ≡ pointwise T.eq a.now b.now) }
+{
+    a == b
 }
 
 // Are two trackers of one set-up: as many channels, with the same numbers and first numbers, place by place?
-fn same_set_up<'a>(
-    count: usize,
-    numbers: &'a [u16; Seat::COUNT],
-    from: &'a [u64; Seat::COUNT],
-    other_count: usize,
-    other_numbers: &'a [u16; Seat::COUNT],
-    other_from: &'a [u64; Seat::COUNT],
-) -> bool
-    ensures { result ≡ same_set_up (heads count numbers.now from.now) (heads other_count other_numbers.now other_from.now) }
+fn same_set_up(mine: Fields<'_>, other: Fields<'_>) -> bool
+    ensures { result ≡ same_set_up (held mine.entry) (held other.entry) }
 {
-    if count != other_count {
-        return false;
-    }
-    let mut i: usize = 0;
-    while i < Seat::COUNT {
-        if numbers[i] != other_numbers[i] {
-            return false;
-        }
-        if from[i] != other_from[i] {
-            return false;
-        }
-        i += 1;
-    }
-    true
+    // `&` has no branch, so the proof has one path.
+    (mine.count == other.count) & same(mine.numbers, other.numbers) & same(mine.from, other.from)
 }
 
-// Joins the tracker of some arrays with another, and these arrays become those of the tracker joined; a refusal leaves them as they stood.
-pub fn join_in<'a>(
-    count: usize,
-    numbers: &'a [u16; Seat::COUNT],
-    from: &'a [u64; Seat::COUNT],
-    highest: &mut [u64; Seat::COUNT],
-    ended: &mut [u8; Seat::COUNT],
-    counts: &mut [usize; Seat::COUNT],
-    first: &mut [u64; Seat::PLACES],
-    last: &mut [u64; Seat::PLACES],
-    other_count: usize,
-    other_numbers: &'a [u16; Seat::COUNT],
-    other_from: &'a [u64; Seat::COUNT],
-    other_highest: &'a [u64; Seat::COUNT],
-    other_ended: &'a [u8; Seat::COUNT],
-    other_counts: &'a [usize; Seat::COUNT],
-    other_first: &'a [u64; Seat::PLACES],
-    other_last: &'a [u64; Seat::PLACES],
-) -> JoinVerdict
-    ensures joins { Joins (at_entry_mut count numbers from highest ended counts first last) (at_entry other_count other_numbers other_from other_highest other_ended other_counts other_first other_last) (answered result (at_end_mut count numbers from highest ended counts first last)) }
-    ensures other_stays { at_end other_count other_numbers other_from other_highest other_ended other_counts other_first other_last ≡ at_entry other_count other_numbers other_from other_highest other_ended other_counts other_first other_last }
+// May two trackers be joined? 10 for either, then 11, then 9.
+fn judge(mine: Fields<'_>, other: Fields<'_>) -> Result<(), Refusal>
+    ensures { result ≡ judged (held mine.entry) (held other.entry) }
 {
-    if !sound(count, numbers, from, highest, ended, counts, first, last) {
-        return JoinVerdict::Malformed;
+    if !mine.sound() || !other.sound() {
+        return Err(Refusal::Malformed);
     }
-    if !sound(
-        other_count,
-        other_numbers,
-        other_from,
-        other_highest,
-        other_ended,
-        other_counts,
-        other_first,
-        other_last,
-    ) {
-        return JoinVerdict::Malformed;
+    if !same_set_up(mine, other) {
+        return Err(Refusal::SetUpsDiffer);
     }
-    if !same_set_up(count, numbers, from, other_count, other_numbers, other_from) {
-        return JoinVerdict::SetUpsDiffer;
+    if !fits(mine, other) {
+        return Err(Refusal::TableFull);
     }
-    if fits(
-        count,
-        highest,
-        counts,
-        first,
-        last,
-        other_highest,
-        other_counts,
-        other_first,
-        other_last,
-    ) {
-        lay_all(
-            count,
-            highest,
-            ended,
-            counts,
-            first,
-            last,
-            other_highest,
-            other_ended,
-            other_counts,
-            other_first,
-            other_last,
-        );
-        return JoinVerdict::Joined;
-    }
-    JoinVerdict::TableFull
+    Ok(())
+}
+
+// Joins the tracker of some fields with another, and these become those of the tracker joined; a refusal leaves them as they stood.
+pub fn join_in(mine: &mut FieldsMut<'_>, other: Fields<'_>) -> Result<(), Refusal>
+    ensures same_places { SamePlaces mine.old mine.new }
+    ensures same_channels { SameChannels mine.old mine.new }
+    ensures joins { Joins (held_mut mine.old) (held other.entry) (answered result (held_mut mine.new)) }
+    ensures other_stays { held other.exit ≡ held other.entry }
+{
+    judge(mine.read(), other)?;
+    lay_all(mine, other);
+    Ok(())
 }

@@ -6,11 +6,10 @@ use mathlib.Core.Bool.{cond}
 use lib.Dec.{eqb}
 use Rattle.wire.specs.Answer.{Answer, accepted, refused}
 use Rattle.wire.specs.Refusal.{not_its_layout}
-use Rattle.layout.specs.Paper.{body_refusal, means_verdict}
+use Rattle.layout.specs.Paper.{body_refusal, Verdict, means_verdict}
 use Rattle.layout.specs.declared.group.Refusal.{Refusal}
 use Rattle.layout.specs.declared.group.Refusal.TheVariants.{NotItsLayout, OutOfRange}
-use Rattle.layout.specs.declared.group.Verdict.{Verdict}
-use Rattle.layout.specs.declared.group.Verdict.TheVariants.{Accepted, Refused}
+use Rattle.std.specs.Prelude.{Ok, Err}
 
 -- the refusal of a number
 abbrev pub code_refusal : ℕ → Refusal
@@ -21,13 +20,13 @@ back_refusal NotItsLayout = refl
 back_refusal OutOfRange = refl
 
 code : Answer Unit → Verdict
-code (accepted u) = Accepted
-code (refused n vs) = Refused (code_refusal n)
+code (accepted u) = Ok u
+code (refused n vs) = Err (code_refusal n)
 
 back : (v : Verdict) → code (means_verdict v) ≡ v
 unfolding code
-back Accepted = refl
-back (Refused x) = ap Refused (back_refusal x)
+back (Ok u) = refl
+back (Err x) = ap Err (back_refusal x)
 
 pub one-verdict : (a b : Verdict) → means_verdict a ≡ means_verdict b → a ≡ b
 one-verdict a b e = sym (back a) ∙ ap code e ∙ back b

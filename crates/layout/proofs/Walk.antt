@@ -6,8 +6,11 @@ use mathlib.Core.Bool.{Bool, true, false, ◌&&◌}
 use mathlib.Core.List.{List, [], ◌∷◌}
 use native.Mathlib.Nat.{mul-suc}
 use native.Mathlib.Omega.{arith}
-use borrow.Author.Tests.{le-leb, lt-leb, leb-true, leb-false}
-use lib.Dec.{leb, eqb}
+use borrow.Author.Tests.{le-leb, lt-leb, leb-true, leb-false, eq-eqb, ne_eqb}
+use lib.Dec.{leb}
+use Rattle.std.specs.Prelude.{cond, Some, None}
+use Rattle.std.specs.Option.{unwrap_or}
+use Rattle.std.proofs.lemmas.Option.{cond_some, none-some}
 use lib.ListN.{length, take, drop}
 use Rattle.wire.specs.Answer.{Answer, accepted, refused, guard}
 use Rattle.wire.specs.Bytes.{be_at, part}
@@ -15,7 +18,7 @@ use Rattle.wire.specs.Refusal.{not_its_layout}
 use Rattle.wire.proofs.Be.{be_at-part}
 use Rattle.layout.specs.Kind.{Kind, quantity, width, ranged}
 use Rattle.layout.specs.Layout.{Message, fields, Group, size, ranges}
-use Rattle.layout.specs.Group.{shown, shown_offset, next_offset, group_offset, fit, quantities, group_ranges, verdict, judge_groups, offset_from, also, no_group, group, groups_start, count, needs, whole, judge_body}
+use Rattle.layout.specs.Group.{shown, shown_offset, next_offset, group_offset, fit, quantities, group_ranges, verdict, end_of, even, judge_groups, offset_from, also, no_group, group, groups_start, count, needs, whole, judge_body}
 
 -- ---- truth values
 
@@ -151,25 +154,51 @@ module _ (g : Group) (s : List ℕ) where
       let e : next_offset g s at ≡ at + size g.fields = rw h (omega arith) in
       rw (e, mul-suc (size g.fields) i, offset_flat h (at + size g.fields) i) (omega arith)
 
--- where a walk over k groups stops, and where it ends
+-- where k groups end, by whether they fit
 module _ (g : Group) (s : List ℕ) (at k : ℕ) where
-  pub stops : {b : Bool} {e : ℕ} → (b ≡ false) × (e ≡ at) → fit g s at k ≡ false → (b ≡ fit g s at k) × (e ≡ offset_from g s at k)
-  unfolding offset_from
-  stops h f = rw f (h.0, h.1)
+  pub lacks : fit g s at k ≡ false → None ≡ end_of g s at k
+  unfolding end_of
+  lacks f = rw f
 
-  pub ends : {e : ℕ} → fit g s at k ≡ true → group_offset g s at k ≡ e → (true ≡ fit g s at k) × (e ≡ offset_from g s at k)
-  unfolding offset_from
-  ends f h = rw f (refl, sym h)
+  pub ends : {e : ℕ} → fit g s at k ≡ true → group_offset g s at k ≡ e → Some e ≡ end_of g s at k
+  unfolding end_of
+  ends f h = rw (f, h)
 
--- ---- all of k groups there, and nothing behind them
+  -- what their end says
+  pub fits : {e : ℕ} → end_of g s at k ≡ Some e → (fit g s at k ≡ true) × (group_offset g s at k ≡ e)
+  unfolding end_of
+  fits {e} h = cond_some (fit g s at k) (group_offset g s at k) e h
 
-pub all_of : (g : Group) (s : List ℕ) (k : ℕ) {b : Bool} {e : ℕ} → b ≡ fit g s 0 k → e ≡ offset_from g s 0 k → b && eqb e (length s) ≡ fit g s 0 k && eqb (group_offset g s 0 k) (length s)
-unfolding offset_from
-all_of g s k {b} {e} f h = rw (f, h) (by (fit g s 0 k) refl)
-  where
-    by : (t : Bool) → fit g s 0 k ≡ t → fit g s 0 k && eqb (offset_from g s 0 k) (length s) ≡ fit g s 0 k && eqb (group_offset g s 0 k) (length s)
-    by true q = rw q
-    by false q = rw q
+  pub fits_not : end_of g s at k ≡ None → fit g s at k ≡ false
+  unfolding end_of
+  fits_not h = by (fit g s at k) h
+    where
+      by : (b : Bool) → cond b (Some (group_offset g s at k)) None ≡ None → b ≡ false
+      by true f = absurd (none-some (group_offset g s at k) (sym f))
+      by false f = refl
+
+  -- the offset behind them, or that from which they were looked for
+  pub from : unwrap_or (end_of g s at k) at ≡ offset_from g s at k
+  unfolding end_of offset_from
+  from = by (fit g s at k)
+    where
+      by : (b : Bool) → unwrap_or (cond b (Some (group_offset g s at k)) None) at ≡ cond b (group_offset g s at k) at
+      by true = refl
+      by false = refl
+
+-- k groups and nothing else, by where they end
+module _ (g : Group) (s : List ℕ) (k : ℕ) where
+  pub evenly : {e : ℕ} → end_of g s 0 k ≡ Some e → e ≡ length s → even g s k ≡ true
+  unfolding even
+  evenly h f = let t = fits g s 0 k h in rw (t.0, eq-eqb _ _ (t.1 ∙ f))
+
+  pub longer : {e : ℕ} → end_of g s 0 k ≡ Some e → (e ≡ length s → ⊥) → even g s k ≡ false
+  unfolding even
+  longer h f = let t = fits g s 0 k h in rw (t.0, ne_eqb _ _ (λ i. f (sym t.1 ∙ i)))
+
+  pub lacking : end_of g s 0 k ≡ None → even g s k ≡ false
+  unfolding even
+  lacking h = rw (fits_not g s 0 k h)
 
 -- ---- a group in the part that holds its fields
 

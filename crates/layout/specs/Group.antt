@@ -1,7 +1,7 @@
 -- Groups behind a count and the quantities that each shows; where group i stands; and the judging of a body, 4 for the whole of it before 5.
 -- Entries by position and the cursor build on offset_from, shown and judge_groups.
 -- Assumes nothing.
-use Rattle.std.specs.Prelude.{ℕ, zero, suc, ◌+◌, ◌-◌, ◌*◌, Bool, true, false, cond, not, ◌&&◌, List, [], leb, eqb, length}
+use Rattle.std.specs.Prelude.{ℕ, zero, suc, ◌+◌, ◌-◌, ◌*◌, Bool, true, false, cond, not, ◌&&◌, List, [], leb, eqb, length, Option, Some, None}
 use Rattle.wire.specs.Answer.{Answer, accepted, refused, guard}
 use Rattle.wire.specs.Bytes.{be_at}
 use Rattle.wire.specs.Refusal.{not_its_layout, out_of_range}
@@ -68,6 +68,10 @@ also good (refused n vs) = refused n vs
 -- where i groups end, if the bytes have them; else the offset from which they were looked for
 unfoldable pub offset_from : Group → List ℕ → ℕ → ℕ → ℕ
 offset_from g s at i = cond (fit g s at i) (group_offset g s at i) at
+
+-- where k groups end, if the bytes have them
+unfoldable pub end_of : Group → List ℕ → ℕ → ℕ → Option ℕ
+end_of g s at k = cond (fit g s at k) (Some (group_offset g s at k)) None
 
 -- ---- a body
 

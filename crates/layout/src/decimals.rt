@@ -13,7 +13,7 @@ pub const QUANTITY: usize = 2;
 
 pub const AMOUNT: usize = 4;
 
-// Each as a call.
+// Each as a call, by the name that docs/PROMISES.md has.
 pub fn price() -> usize
     ensures { (result ≡ decimals kind.order_price) × (result ≡ decimals kind.trade_price) × (result ≡ decimals kind.previous_close) }
 {

@@ -3,13 +3,13 @@ ghost use Rattle.std.specs.Prelude.{◌≡◌, true, false, ◌+◌, ◌*◌, �
 ghost use Rattle.layout.specs.Kind as kind;
 ghost use Rattle.layout.specs.Layout.{size, ranges};
 ghost use Rattle.layout.specs.Group as of;
-ghost use Rattle.layout.specs.Group.{fit, quantities, group_ranges, judge_groups, judge_all, offset_from};
+ghost use Rattle.layout.specs.Group.{fit, quantities, group_ranges, end_of, judge_groups, judge_all, offset_from};
 ghost use Rattle.layout.specs.Paper.{means_groups, body_refusal, means_verdict};
 
 use crate::range::{entry_price_in_range, natural_in_range, quantity_in_range, yes_no_in_range};
 use crate::width::QUANTITY;
 use crate::{entry, index_entry, stream, switch};
-use wire::answers;
+use wire::{Number, answers};
 
 // The groups of a statistics body, of a security status, of an index, and of a snapshot.
 #[derive(Clone, Copy)]
@@ -27,39 +27,28 @@ pub enum Refusal {
     OutOfRange,
 }
 
-impl Refusal {
-    // Its number.
-    pub fn number(self) -> u32
-        ensures { result ≡ body_refusal self }
-    {
-        match self {
+// Its number.
+impl From<Refusal> for u32 {
+    ghost from_gives = { λ x n. n ≡ body_refusal x };
+
+    fn from(why: Refusal) -> u32 {
+        match why {
             Refusal::NotItsLayout => answers::NOT_ITS_LAYOUT,
             Refusal::OutOfRange => answers::OUT_OF_RANGE,
         }
     }
 }
 
-#[derive(Clone, Copy)]
-pub enum Verdict {
-    Accepted,
-    Refused(Refusal),
-}
-
-impl Verdict {
-    // The verdict on a body: that on its groups, and 5 where a field in front of them is out of range.
-    pub fn also(self, good: bool) -> Verdict
-        ensures { means_verdict result ≡ of.also good (means_verdict self) }
-    {
-        match self {
-            Verdict::Accepted => {
-                if good {
-                    Verdict::Accepted
-                } else {
-                    Verdict::Refused(Refusal::OutOfRange)
-                }
-            }
-            Verdict::Refused(x) => Verdict::Refused(x),
-        }
+// The verdict on a body: that on its groups, and 5 where a field in front of them is out of range.
+#[tactic(auto, unfolding(wire::specs::Answer::guard))]
+pub fn also(verdict: Result<(), Refusal>, good: bool) -> Result<(), Refusal>
+    ensures { means_verdict result ≡ of.also good (means_verdict verdict) }
+{
+    verdict?;
+    if good {
+        Ok(())
+    } else {
+        Err(Refusal::OutOfRange)
     }
 }
 
@@ -84,7 +73,7 @@ fn shown(g: Groups, e: &[u8]) -> usize
         Groups::Streams => 0,
         Groups::Switches => 0,
         Groups::IndexEntries => 0,
-        Groups::SnapshotEntries => wire::be4(&e[0..entry::WIDTH], entry::SHOWN_COUNT) as usize,
+        Groups::SnapshotEntries => u32::at(&e[0..entry::WIDTH], entry::SHOWN_COUNT) as usize,
     }
 }
 
@@ -95,16 +84,16 @@ fn fields_in(g: Groups, e: &[u8]) -> bool
 {
     match g {
         Groups::Streams => true,
-        Groups::Switches => yes_no_in_range(wire::be2(&e[0..switch::WIDTH], switch::YES_NO)),
-        Groups::IndexEntries => entry_price_in_range(wire::be8(
+        Groups::Switches => yes_no_in_range(u16::at(&e[0..switch::WIDTH], switch::YES_NO)),
+        Groups::IndexEntries => entry_price_in_range(u64::at(
             &e[0..index_entry::WIDTH],
             index_entry::PRICE,
         )),
         Groups::SnapshotEntries => {
             let f = &e[0..entry::WIDTH];
-            entry_price_in_range(wire::be8(f, entry::PRICE))
-                & (quantity_in_range(wire::be8(f, entry::SIZE))
-                    & natural_in_range(wire::be8(f, entry::ORDER_COUNT)))
+            entry_price_in_range(u64::at(f, entry::PRICE))
+                & (quantity_in_range(u64::at(f, entry::SIZE))
+                    & natural_in_range(u64::at(f, entry::ORDER_COUNT)))
         }
     }
 }
@@ -115,60 +104,38 @@ fn quantities_in(n: usize, s: &[u8], at: usize) -> bool
     ensures { result ≡ quantities n s.now at }
 {
     let mut p = at;
-    let mut left = n;
-    while 0 < left {
+    for _ in 0..n {
         let q = p + QUANTITY;
-        let e = &s[p..q];
-        if quantity_in_range(wire::be8(e, 0)) {
-            p = q;
-            left -= 1;
-        } else {
+        if !quantity_in_range(u64::at(&s[p..q], 0)) {
             return false;
         }
+        p = q;
     }
     true
 }
 
-// Whether the bytes have k groups from an offset on, and where these end; that offset itself where they lack some.
-#[derive(Clone, Copy)]
-struct Span {
-    fits: bool,
-    end: usize,
-}
-
-fn short(at: usize) -> Span
-    ensures { (result.fits ≡ false) × (result.end ≡ at) }
-{
-    Span {
-        fits: false,
-        end: at,
-    }
-}
-
-fn walk(g: Groups, s: &[u8], at: usize, k: u32) -> Span
-    ensures { (result.fits ≡ fit (means_groups g) s.now at k) × (result.end ≡ offset_from (means_groups g) s.now at k) }
+// Where k groups from an offset on end, if the bytes have them.
+fn end_of(g: Groups, s: &[u8], at: usize, k: u32) -> Option<usize>
+    ensures { result ≡ end_of (means_groups g) s.now at k }
 {
     let n = s.len();
     let w = width(g);
     let mut p = at;
-    let mut left = k;
-    while 0 < left {
+    for _ in 0..k {
         if n < p {
-            return short(at);
+            return None;
         }
         if n - p < w {
-            return short(at);
+            return None;
         }
         let q = p + w;
-        let e = &s[p..q];
-        let m = shown(g, e);
+        let m = shown(g, &s[p..q]);
         if n - q < QUANTITY * m {
-            return short(at);
+            return None;
         }
         p = q + QUANTITY * m;
-        left -= 1;
     }
-    Span { fits: true, end: p }
+    Some(p)
 }
 
 // Whether k groups that are there are in range.
@@ -178,57 +145,41 @@ fn groups_in(g: Groups, s: &[u8], at: usize, k: u32) -> bool
 {
     let w = width(g);
     let mut p = at;
-    let mut left = k;
-    while 0 < left {
+    for _ in 0..k {
         let q = p + w;
         let e = &s[p..q];
         let m = shown(g, e);
-        if fields_in(g, e) & quantities_in(m, s, q) {
-            p = q + QUANTITY * m;
-            left -= 1;
-        } else {
+        if !(fields_in(g, e) & quantities_in(m, s, q)) {
             return false;
         }
+        p = q + QUANTITY * m;
     }
     true
 }
 
-// The verdict on k groups that are all there, or not.
-fn judged(g: Groups, s: &[u8], at: usize, k: u32, there: bool) -> Verdict
-    requires { there ≡ true → fit (means_groups g) s.now at k ≡ true }
-    ensures { means_verdict result ≡ of.verdict there (group_ranges (means_groups g) s.now at k) }
+// Judges k groups from an offset on: 4 where the bytes lack some, else 5 where a field or a shown quantity is out of range.
+pub fn judge(g: Groups, s: &[u8], at: usize, k: u32) -> Result<(), Refusal>
+    ensures { means_verdict result ≡ judge_groups (means_groups g) s.now at k }
 {
-    if there {
-        if groups_in(g, s, at, k) {
-            Verdict::Accepted
-        } else {
-            Verdict::Refused(Refusal::OutOfRange)
-        }
-    } else {
-        Verdict::Refused(Refusal::NotItsLayout)
+    match end_of(g, s, at, k) {
+        Some(_) => also(Ok(()), groups_in(g, s, at, k)),
+        None => Err(Refusal::NotItsLayout),
     }
 }
 
-// Judges k groups from an offset on: 4 where the bytes lack some, else 5 where a field or a shown quantity is out of range.
-pub fn judge(g: Groups, s: &[u8], at: usize, k: u32) -> Verdict
-    ensures { means_verdict result ≡ judge_groups (means_groups g) s.now at k }
-{
-    let w = walk(g, s, at, k);
-    judged(g, s, at, k, w.fits)
-}
-
 // Judges bytes that are to be k groups and nothing else.
-pub fn judge_all(g: Groups, s: &[u8], k: u32) -> Verdict
+pub fn judge_all(g: Groups, s: &[u8], k: u32) -> Result<(), Refusal>
     ensures { means_verdict result ≡ judge_all (means_groups g) s.now k }
 {
-    let w = walk(g, s, 0, k);
-    judged(g, s, 0, k, w.fits & (w.end == s.len()))
+    match end_of(g, s, 0, k) {
+        Some(end) if end == s.len() => also(Ok(()), groups_in(g, s, 0, k)),
+        _ => Err(Refusal::NotItsLayout),
+    }
 }
 
 // Where group i stands, counted from an offset on; that offset itself where the bytes lack one before it.
 pub fn offset_from(g: Groups, s: &[u8], at: usize, i: u32) -> usize
     ensures { result ≡ offset_from (means_groups g) s.now at i }
 {
-    let w = walk(g, s, at, i);
-    w.end
+    end_of(g, s, at, i).unwrap_or(at)
 }

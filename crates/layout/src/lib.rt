@@ -21,7 +21,7 @@ pub mod trade;
 pub mod volume_index;
 pub mod width;
 
-pub use group::{Groups, Refusal, Verdict, judge, judge_all, offset_from};
+pub use group::{Groups, Refusal, also, judge, judge_all, offset_from};
 pub use range::{
     amount_in_range, entry_price_in_range, execution_in_range, natural_in_range, number_in_range,
     order_type_in_range, price_in_range, quantity_in_range, resend_type_in_range, side_in_range,

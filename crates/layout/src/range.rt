@@ -1,4 +1,5 @@
-// Whether a number, read without a sign, is in the range of its kind.
+// Whether a number, read without a sign, is in the range of its kind. docs/PROMISES.md promises each by its name. Tests are joined by `&` and
+// `|`, which don't branch: fields are judged at every read.
 ghost use Rattle.std.specs.Prelude.{◌≡◌};
 ghost use Rattle.layout.specs.Kind as kind;
 ghost use Rattle.layout.specs.Kind.{ranged};
@@ -81,10 +82,11 @@ pub fn yes_no_in_range(v: u16) -> bool
     v <= 1
 }
 
+#[tactic(auto, unfolding(crate::specs::Kind::ranged))]
 pub fn resend_type_in_range(v: u8) -> bool
     ensures { result ≡ ranged kind.resend_type v }
 {
-    (1 <= v) & (v <= 2)
+    matches!(v, 1..=2)
 }
 
 pub fn status_in_range(v: u8) -> bool
@@ -93,20 +95,23 @@ pub fn status_in_range(v: u8) -> bool
     v <= 4
 }
 
+#[tactic(auto, unfolding(crate::specs::Kind::ranged))]
 pub fn side_in_range(v: u8) -> bool
     ensures { result ≡ ranged kind.side v }
 {
-    (v == b'1') | ((v == b'2') | ((v == b'G') | (v == b'F')))
+    matches!(v, b'1' | b'2' | b'G' | b'F')
 }
 
+#[tactic(auto, unfolding(crate::specs::Kind::ranged))]
 pub fn order_type_in_range(v: u8) -> bool
     ensures { result ≡ ranged kind.order_type v }
 {
-    (v == b'1') | ((v == b'2') | (v == b'U'))
+    matches!(v, b'1' | b'2' | b'U')
 }
 
+#[tactic(auto, unfolding(crate::specs::Kind::ranged))]
 pub fn execution_in_range(v: u8) -> bool
     ensures { result ≡ ranged kind.execution v }
 {
-    (v == b'4') | (v == b'F')
+    matches!(v, b'4' | b'F')
 }

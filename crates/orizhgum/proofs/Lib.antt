@@ -1,3 +1,2 @@
 pub mod Shown
-pub mod Lent
 pub mod Unique

@@ -2,13 +2,14 @@
 -- Assumes nothing.
 use Prim.Native.Nat.{ℕ}
 use mathlib.Core.Path.{◌≡◌, refl, sym}
-use mathlib.Core.Bool.{true, false, true≢false}
+use mathlib.Core.Bool.{Bool, true, false, cond, true≢false}
 use mathlib.Core.List.{List, []}
+use lib.Dec.{leb}
 use Rattle.wire.specs.Answer.{accepted, refused}
 use Rattle.layout.specs.Layout.{Message, Listed, listed, unlisted, fields, texts}
-use Rattle.layout.specs.Group.{judge_body}
+use Rattle.layout.specs.Group.{judge_body, groups_start}
 use Rattle.record.specs.Asked.{filled, judge_listed}
-use Rattle.record.specs.Record.{Reading, numbers_as, read_as, is_listed}
+use Rattle.record.specs.Record.{Reading, numbers_as, had, read_as, is_listed}
 use Rattle.wire.specs.Number.{plain, answer_number, unknown_number}
 use Rattle.orizhgum.specs.Records.{judged_number, RecordAnswer, record_answer}
 
@@ -20,6 +21,15 @@ unlisted-judged unlisted s e = refl
 pub listed-judged : (l : Listed) (s : List ℕ) → is_listed l ≡ true → answer_number (judge_listed l s) ≡ judged_number l s
 listed-judged (listed m) s e = refl
 listed-judged unlisted s e = absurd (true≢false (sym e))
+
+cond_same : (b : Bool) (l : List ℕ) → cond b l l ≡ l
+cond_same true l = refl
+cond_same false l = refl
+
+-- no bytes have no fields
+pub had_of_none : (m : Message) → had m [] ≡ []
+unfolding had
+had_of_none m = cond_same (leb (groups_start m) 0) []
 
 -- a body that its type's own call judged: accepted, with its numbers and its texts, or refused
 module _ (m : Message) (s : List ℕ) {r : Reading} {b : List ℕ} where

@@ -7,9 +7,9 @@ ghost use Rattle.tracker.specs.SetUp.{set_up};
 ghost use Rattle.tracker.specs.Arrived.{on, arrive, arrival_said};
 ghost use Rattle.orizhgum.specs.Arrivals.{said_number, start_answer, ending, replied, arrival_answer};
 
-use seats::Seat;
-use tracker::{Tracker, Verdict, heartbeat_in, tick_in};
-use wire::answers::{BEFORE_START, DUPLICATE, LATE, PLAIN};
+use seats::{FieldsMut, Seat};
+use tracker::{Malformed, News, Refusal, Started, Tracker, heartbeat_in, tick_in};
+use wire::answers::{BEFORE_START, DUPLICATE, LATE, MALFORMED, PLAIN};
 
 #[repr(C)]
 #[derive(Clone, Copy)]
@@ -19,19 +19,15 @@ pub struct StartAnswer {
 }
 
 // The number of an arrival's answer.
-fn verdict_number(verdict: Verdict) -> u32
+fn verdict_number(verdict: Result<News, Refusal>) -> u32
     ensures { result ≡ said_number (arrival_said verdict) }
 {
     match verdict {
-        Verdict::New => PLAIN,
-        Verdict::Late => LATE,
-        Verdict::Duplicate => DUPLICATE,
-        Verdict::Heard => PLAIN,
-        Verdict::BeforeStart => BEFORE_START,
-        Verdict::NoSuchChannel => verdict.number(),
-        Verdict::NumberTooLow => verdict.number(),
-        Verdict::TableFull => verdict.number(),
-        Verdict::Malformed => verdict.number(),
+        Ok(News::New | News::Heard) => PLAIN,
+        Ok(News::Late) => LATE,
+        Ok(News::Duplicate) => DUPLICATE,
+        Ok(News::BeforeStart) => BEFORE_START,
+        Err(why) => u32::from(why),
     }
 }
 
@@ -39,16 +35,16 @@ fn verdict_number(verdict: Verdict) -> u32
 pub fn orizhgum_set_up<'a>(channels: &'a [u16], from: &'a [i64]) -> StartAnswer
     ensures { result ≡ start_answer (set_up channels.now from.now) }
 {
-    let s = Tracker::set_up(channels, from);
-    let verdict = s.verdict;
-    let tracker = s.tracker;
-    StartAnswer {
-        answer: verdict.number(),
-        tracker,
-    }
+    let Started { verdict, tracker } = Tracker::set_up(channels, from);
+    let answer = match verdict {
+        Ok(()) => PLAIN,
+        Err(Malformed) => MALFORMED,
+    };
+    StartAnswer { answer, tracker }
 }
 
 // A tick on a channel of the tracker that the arrays hold, which become those of the next one; a refusal leaves them as they stood.
+// C interface: it has the arrays as parameters of their own, here and in the calls like it.
 pub fn orizhgum_tick_in<'a>(
     count: usize,
     numbers: &'a [u16; Tracker::CHANNELS],
@@ -63,9 +59,17 @@ pub fn orizhgum_tick_in<'a>(
 ) -> u32
     ensures { replied result (made (at_exit count numbers from highest ended counts first last)) ≡ arrival_answer (arrive (made (at_entry_mut count numbers from highest ended counts first last)) (on channel (tick number))) }
 {
-    verdict_number(tick_in(
-        count, numbers, from, highest, ended, counts, first, last, channel, number,
-    ))
+    let mut fields = FieldsMut {
+        count,
+        numbers,
+        from,
+        highest,
+        ended,
+        counts,
+        first,
+        last,
+    };
+    verdict_number(tick_in(&mut fields, channel, number))
 }
 
 // A channel heartbeat, in the same way; end 0 is no, anything else yes.
@@ -84,7 +88,7 @@ pub fn orizhgum_heard_in<'a>(
 ) -> u32
     ensures { replied result (made (at_exit count numbers from highest ended counts first last)) ≡ arrival_answer (arrive (made (at_entry_mut count numbers from highest ended counts first last)) (on channel (heartbeat last_number (ending end)))) }
 {
-    verdict_number(heartbeat_in(
+    let mut fields = FieldsMut {
         count,
         numbers,
         from,
@@ -93,8 +97,6 @@ pub fn orizhgum_heard_in<'a>(
         counts,
         first,
         last,
-        channel,
-        last_number,
-        end != 0,
-    ))
+    };
+    verdict_number(heartbeat_in(&mut fields, channel, last_number, end != 0))
 }

@@ -6,7 +6,7 @@ ghost use Rattle.entries.specs.Paper.{means_cursor};
 ghost use Rattle.prices.specs.Entries.{entry_answer, step_answer, pricing, priced_left};
 ghost use Rattle.orizhgum.specs.Quantity.{quantity_answer};
 
-use entries::{AskedQuantity, Cursor};
+use entries::Cursor;
 use prices::{EntryAnswer, StepAnswer};
 use wire::answers::{NO_SUCH_ENTRY, PLAIN};
 
@@ -36,20 +36,12 @@ pub fn orizhgum_entry_price(kind: u32, body: &[u8], i: u32, price: &mut i64) -> 
 pub fn orizhgum_quantity(kind: u32, body: &[u8], i: u32, j: u32) -> QuantityAnswer
     ensures { result ≡ quantity_answer (quantity_of kind body.now i j) }
 {
-    match entries::quantity_of(kind, body, i, j) {
-        AskedQuantity::Found(quantity) => QuantityAnswer {
-            answer: PLAIN,
-            quantity,
-        },
-        AskedQuantity::NoSuchEntry => QuantityAnswer {
-            answer: NO_SUCH_ENTRY,
-            quantity: 0,
-        },
-        AskedQuantity::Refused(x) => QuantityAnswer {
-            answer: x.number(),
-            quantity: 0,
-        },
-    }
+    let (answer, quantity) = match entries::quantity_of(kind, body, i, j) {
+        Ok(Some(quantity)) => (PLAIN, quantity),
+        Ok(None) => (NO_SUCH_ENTRY, 0),
+        Err(x) => (u32::from(x), 0),
+    };
+    QuantityAnswer { answer, quantity }
 }
 
 // The cursor before the first entry of a body.

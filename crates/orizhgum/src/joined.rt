@@ -1,10 +1,12 @@
-// Two trackers joined, over their arrays.
+// Two trackers joined, over their arrays, which are parameters of their own for C.
 ghost use Rattle.std.specs.Prelude.{◌≡◌};
 ghost use Rattle.seats.specs.Arrays.{at_entry, at_end, at_entry_mut, at_end_mut};
 ghost use Rattle.orizhgum.specs.Joined.{JoinsFromC, join_replied};
 
-use seats::Seat;
-use tracker::{JoinVerdict, Tracker, join_in};
+use joins::join_in;
+use seats::{Fields, FieldsMut, Seat};
+use tracker::Tracker;
+use wire::answers::PLAIN;
 
 // Joins the tracker that the first arrays hold with another, and they become those of the tracker joined; a refusal leaves them as they stood.
 pub fn orizhgum_join_in<'a>(
@@ -28,7 +30,7 @@ pub fn orizhgum_join_in<'a>(
     ensures joins_from_c { JoinsFromC (at_entry_mut count numbers from highest ended counts first last) (at_entry other_count other_numbers other_from other_highest other_ended other_counts other_first other_last) (join_replied result (at_end_mut count numbers from highest ended counts first last)) }
     ensures other_stays { at_end other_count other_numbers other_from other_highest other_ended other_counts other_first other_last ≡ at_entry other_count other_numbers other_from other_highest other_ended other_counts other_first other_last }
 {
-    let verdict = join_in(
+    let mut mine = FieldsMut {
         count,
         numbers,
         from,
@@ -37,14 +39,19 @@ pub fn orizhgum_join_in<'a>(
         counts,
         first,
         last,
-        other_count,
-        other_numbers,
-        other_from,
-        other_highest,
-        other_ended,
-        other_counts,
-        other_first,
-        other_last,
-    );
-    verdict.number()
+    };
+    let other = Fields {
+        count: other_count,
+        numbers: other_numbers,
+        from: other_from,
+        highest: other_highest,
+        ended: other_ended,
+        counts: other_counts,
+        first: other_first,
+        last: other_last,
+    };
+    match join_in(&mut mine, other) {
+        Ok(()) => PLAIN,
+        Err(why) => u32::from(why),
+    }
 }

@@ -5,7 +5,6 @@ ghost use Rattle.std.specs.Prelude.{◌≡◌};
 ghost use Rattle.frame.specs.Framing.{read, header_width, body_limit};
 ghost use Rattle.orizhgum.specs.Framed.{frame_answer};
 
-use frame::Framed;
 use wire::answers;
 
 pub mod arrivals;
@@ -33,19 +32,19 @@ pub fn orizhgum_frame(bytes: &[u8]) -> FrameAnswer
     ensures { result ≡ frame_answer (read header_width body_limit bytes.now) }
 {
     match frame::read(bytes) {
-        Framed::Whole(f) => FrameAnswer {
+        Ok(f) => FrameAnswer {
             answer: answers::PLAIN,
             kind: f.kind,
             len: f.len,
             total: f.total,
             missing: 0,
         },
-        Framed::Refused(why) => FrameAnswer {
-            answer: frame::number(why),
+        Err(why) => FrameAnswer {
+            answer: u32::from(why),
             kind: 0,
             len: 0,
             total: 0,
-            missing: frame::missing(why),
+            missing: why.missing(),
         },
     }
 }

@@ -5,10 +5,10 @@ ghost use Rattle.layout.specs.Layout.{named};
 ghost use Rattle.record.specs.declared.Record.TheVariants as is;
 ghost use Rattle.orizhgum.specs.Records.{judged_number, record_answer, answer_as};
 
-use layout::{TEXT_ROOM, Verdict};
+use layout::TEXT_ROOM;
 use record::{
-    ChannelHeartbeat, Index, Order, Resend, SecurityStatus, Snapshot, Statistics, Trade,
-    VolumeIndex,
+    ChannelHeartbeat, Index, Listed, Order, Resend, SecurityStatus, Snapshot, Statistics, Texts,
+    Trade, VolumeIndex,
 };
 use wire::answers::{PLAIN, UNKNOWN};
 
@@ -20,13 +20,41 @@ pub fn orizhgum_judge(kind: u32, body: &[u8]) -> u32
         return UNKNOWN;
     }
     match record::judge(kind, body) {
-        Verdict::Accepted => PLAIN,
-        Verdict::Refused(x) => x.number(),
+        Ok(()) => PLAIN,
+        Err(x) => u32::from(x),
     }
 }
 
 // The texts of a refusal.
 const NO_TEXTS: [u8; TEXT_ROOM] = [0; TEXT_ROOM];
+
+// What a body says. C interface: what is exported has no type parameters, so each type's answer is a struct of its own.
+struct Parts<T> {
+    answer: u32,
+    numbers: T,
+    texts: [u8; TEXT_ROOM],
+}
+
+// A body of a type, judged; a refusal has the numbers of no bytes.
+fn told<T: Listed>(body: &[u8]) -> Parts<T>
+    ensures { answer_as result.answer (T.variant result.numbers) result.texts ≡ record_answer T.layout body.now }
+{
+    match T::judge(body) {
+        Ok(()) => {
+            let Texts { bytes, .. } = T::texts(body);
+            Parts {
+                answer: PLAIN,
+                numbers: T::numbers(body),
+                texts: bytes,
+            }
+        }
+        Err(x) => Parts {
+            answer: u32::from(x),
+            numbers: T::numbers(&body[0..0]),
+            texts: NO_TEXTS,
+        },
+    }
+}
 
 #[repr(C)]
 #[derive(Clone, Copy)]
@@ -39,21 +67,15 @@ pub struct OrderAnswer {
 pub fn orizhgum_order(body: &[u8]) -> OrderAnswer
     ensures { answer_as result.answer (is.Order result.numbers) result.texts ≡ record_answer of.order body.now }
 {
-    match record::judge_order(body) {
-        Verdict::Accepted => {
-            let t = record::order_texts(body);
-            let texts = t.bytes;
-            OrderAnswer {
-                answer: PLAIN,
-                numbers: record::order_of(body),
-                texts,
-            }
-        }
-        Verdict::Refused(x) => OrderAnswer {
-            answer: x.number(),
-            numbers: record::order_of(&body[0..0]),
-            texts: NO_TEXTS,
-        },
+    let Parts {
+        answer,
+        numbers,
+        texts,
+    } = told(body);
+    OrderAnswer {
+        answer,
+        numbers,
+        texts,
     }
 }
 
@@ -68,21 +90,15 @@ pub struct TradeAnswer {
 pub fn orizhgum_trade(body: &[u8]) -> TradeAnswer
     ensures { answer_as result.answer (is.Trade result.numbers) result.texts ≡ record_answer of.trade body.now }
 {
-    match record::judge_trade(body) {
-        Verdict::Accepted => {
-            let t = record::trade_texts(body);
-            let texts = t.bytes;
-            TradeAnswer {
-                answer: PLAIN,
-                numbers: record::trade_of(body),
-                texts,
-            }
-        }
-        Verdict::Refused(x) => TradeAnswer {
-            answer: x.number(),
-            numbers: record::trade_of(&body[0..0]),
-            texts: NO_TEXTS,
-        },
+    let Parts {
+        answer,
+        numbers,
+        texts,
+    } = told(body);
+    TradeAnswer {
+        answer,
+        numbers,
+        texts,
     }
 }
 
@@ -97,21 +113,15 @@ pub struct ChannelHeartbeatAnswer {
 pub fn orizhgum_channel_heartbeat(body: &[u8]) -> ChannelHeartbeatAnswer
     ensures { answer_as result.answer (is.ChannelHeartbeat result.numbers) result.texts ≡ record_answer of.channel_heartbeat body.now }
 {
-    match record::judge_channel_heartbeat(body) {
-        Verdict::Accepted => {
-            let t = record::channel_heartbeat_texts(body);
-            let texts = t.bytes;
-            ChannelHeartbeatAnswer {
-                answer: PLAIN,
-                numbers: record::channel_heartbeat_of(body),
-                texts,
-            }
-        }
-        Verdict::Refused(x) => ChannelHeartbeatAnswer {
-            answer: x.number(),
-            numbers: record::channel_heartbeat_of(&body[0..0]),
-            texts: NO_TEXTS,
-        },
+    let Parts {
+        answer,
+        numbers,
+        texts,
+    } = told(body);
+    ChannelHeartbeatAnswer {
+        answer,
+        numbers,
+        texts,
     }
 }
 
@@ -126,21 +136,15 @@ pub struct ResendAnswer {
 pub fn orizhgum_resend(body: &[u8]) -> ResendAnswer
     ensures { answer_as result.answer (is.Resend result.numbers) result.texts ≡ record_answer of.resend body.now }
 {
-    match record::judge_resend(body) {
-        Verdict::Accepted => {
-            let t = record::resend_texts(body);
-            let texts = t.bytes;
-            ResendAnswer {
-                answer: PLAIN,
-                numbers: record::resend_of(body),
-                texts,
-            }
-        }
-        Verdict::Refused(x) => ResendAnswer {
-            answer: x.number(),
-            numbers: record::resend_of(&body[0..0]),
-            texts: NO_TEXTS,
-        },
+    let Parts {
+        answer,
+        numbers,
+        texts,
+    } = told(body);
+    ResendAnswer {
+        answer,
+        numbers,
+        texts,
     }
 }
 
@@ -155,21 +159,15 @@ pub struct SnapshotAnswer {
 pub fn orizhgum_snapshot(body: &[u8]) -> SnapshotAnswer
     ensures { answer_as result.answer (is.Snapshot result.numbers) result.texts ≡ record_answer of.snapshot body.now }
 {
-    match record::judge_snapshot(body) {
-        Verdict::Accepted => {
-            let t = record::snapshot_texts(body);
-            let texts = t.bytes;
-            SnapshotAnswer {
-                answer: PLAIN,
-                numbers: record::snapshot_of(body),
-                texts,
-            }
-        }
-        Verdict::Refused(x) => SnapshotAnswer {
-            answer: x.number(),
-            numbers: record::snapshot_of(&body[0..0]),
-            texts: NO_TEXTS,
-        },
+    let Parts {
+        answer,
+        numbers,
+        texts,
+    } = told(body);
+    SnapshotAnswer {
+        answer,
+        numbers,
+        texts,
     }
 }
 
@@ -184,21 +182,15 @@ pub struct IndexAnswer {
 pub fn orizhgum_index(body: &[u8]) -> IndexAnswer
     ensures { answer_as result.answer (is.Index result.numbers) result.texts ≡ record_answer of.index body.now }
 {
-    match record::judge_index(body) {
-        Verdict::Accepted => {
-            let t = record::index_texts(body);
-            let texts = t.bytes;
-            IndexAnswer {
-                answer: PLAIN,
-                numbers: record::index_of(body),
-                texts,
-            }
-        }
-        Verdict::Refused(x) => IndexAnswer {
-            answer: x.number(),
-            numbers: record::index_of(&body[0..0]),
-            texts: NO_TEXTS,
-        },
+    let Parts {
+        answer,
+        numbers,
+        texts,
+    } = told(body);
+    IndexAnswer {
+        answer,
+        numbers,
+        texts,
     }
 }
 
@@ -213,21 +205,15 @@ pub struct VolumeIndexAnswer {
 pub fn orizhgum_volume_index(body: &[u8]) -> VolumeIndexAnswer
     ensures { answer_as result.answer (is.VolumeIndex result.numbers) result.texts ≡ record_answer of.volume_index body.now }
 {
-    match record::judge_volume_index(body) {
-        Verdict::Accepted => {
-            let t = record::volume_index_texts(body);
-            let texts = t.bytes;
-            VolumeIndexAnswer {
-                answer: PLAIN,
-                numbers: record::volume_index_of(body),
-                texts,
-            }
-        }
-        Verdict::Refused(x) => VolumeIndexAnswer {
-            answer: x.number(),
-            numbers: record::volume_index_of(&body[0..0]),
-            texts: NO_TEXTS,
-        },
+    let Parts {
+        answer,
+        numbers,
+        texts,
+    } = told(body);
+    VolumeIndexAnswer {
+        answer,
+        numbers,
+        texts,
     }
 }
 
@@ -242,21 +228,15 @@ pub struct StatisticsAnswer {
 pub fn orizhgum_statistics(body: &[u8]) -> StatisticsAnswer
     ensures { answer_as result.answer (is.Statistics result.numbers) result.texts ≡ record_answer of.statistics body.now }
 {
-    match record::judge_statistics(body) {
-        Verdict::Accepted => {
-            let t = record::statistics_texts(body);
-            let texts = t.bytes;
-            StatisticsAnswer {
-                answer: PLAIN,
-                numbers: record::statistics_of(body),
-                texts,
-            }
-        }
-        Verdict::Refused(x) => StatisticsAnswer {
-            answer: x.number(),
-            numbers: record::statistics_of(&body[0..0]),
-            texts: NO_TEXTS,
-        },
+    let Parts {
+        answer,
+        numbers,
+        texts,
+    } = told(body);
+    StatisticsAnswer {
+        answer,
+        numbers,
+        texts,
     }
 }
 
@@ -271,20 +251,14 @@ pub struct SecurityStatusAnswer {
 pub fn orizhgum_security_status(body: &[u8]) -> SecurityStatusAnswer
     ensures { answer_as result.answer (is.SecurityStatus result.numbers) result.texts ≡ record_answer of.security_status body.now }
 {
-    match record::judge_security_status(body) {
-        Verdict::Accepted => {
-            let t = record::security_status_texts(body);
-            let texts = t.bytes;
-            SecurityStatusAnswer {
-                answer: PLAIN,
-                numbers: record::security_status_of(body),
-                texts,
-            }
-        }
-        Verdict::Refused(x) => SecurityStatusAnswer {
-            answer: x.number(),
-            numbers: record::security_status_of(&body[0..0]),
-            texts: NO_TEXTS,
-        },
+    let Parts {
+        answer,
+        numbers,
+        texts,
+    } = told(body);
+    SecurityStatusAnswer {
+        answer,
+        numbers,
+        texts,
     }
 }

@@ -1,4 +1,4 @@
-// The request: the frame that asks for a channel's first run, to the start of a lent output. The tracker's arrays stay as they are.
+// The request: the frame that asks for a channel's first run, to the start of a lent output. The tracker's arrays stay as they are; they are parameters of their own for C.
 ghost use Rattle.std.specs.Prelude.{◌≡◌};
 ghost use Rattle.seats.specs.Arrays.{at_entry};
 ghost use Rattle.tracker.specs.Places.{made};
@@ -6,8 +6,8 @@ ghost use Rattle.tracker.specs.Request.{request, request_leaves};
 ghost use Rattle.orizhgum.specs.Requested.{request_answer};
 
 use crate::written::WriteAnswer;
-use seats::Seat;
-use tracker::{Requested, Tracker, request_in};
+use seats::{Fields, Seat};
+use tracker::{Tracker, request_in};
 use wire::answers::{NOTHING_MISSING, PLAIN};
 
 pub fn orizhgum_request_in<'a>(
@@ -25,29 +25,20 @@ pub fn orizhgum_request_in<'a>(
     ensures value { result ≡ request_answer (request (made (at_entry count numbers from highest ended counts first last)) channel out.old) }
     ensures out_after { out.new ≡ request_leaves (made (at_entry count numbers from highest ended counts first last)) channel out.old }
 {
-    let requested = request_in(
-        count, numbers, from, highest, ended, counts, first, last, channel, out,
-    );
-    match requested {
-        Requested::Written(n) => WriteAnswer {
-            answer: PLAIN,
-            written: n,
-        },
-        Requested::NothingMissing => WriteAnswer {
-            answer: NOTHING_MISSING,
-            written: 0,
-        },
-        Requested::Malformed => WriteAnswer {
-            answer: requested.number(),
-            written: 0,
-        },
-        Requested::NoSuchChannel => WriteAnswer {
-            answer: requested.number(),
-            written: 0,
-        },
-        Requested::OutputShort => WriteAnswer {
-            answer: requested.number(),
-            written: 0,
-        },
-    }
+    let fields = Fields {
+        count,
+        numbers,
+        from,
+        highest,
+        ended,
+        counts,
+        first,
+        last,
+    };
+    let (answer, written) = match request_in(fields, channel, out) {
+        Ok(Some(written)) => (PLAIN, written),
+        Ok(None) => (NOTHING_MISSING, 0),
+        Err(why) => (u32::from(why), 0),
+    };
+    WriteAnswer { answer, written }
 }

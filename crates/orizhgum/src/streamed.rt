@@ -8,7 +8,7 @@ ghost use Rattle.orizhgum.specs.Streamed.{no_frame_told, stream_answer};
 use streams::{Pushed, Says, Stream};
 use wire::answers;
 
-// Where a frame's bytes stand: at the start of the cut, or of the lent buffer.
+// Where a frame's bytes stand: at the start of the cut, or of the lent buffer. C interface: numbers, as C takes no enum.
 const IN_CUT: u32 = 1;
 
 const IN_BUFFER: u32 = 2;
@@ -48,33 +48,25 @@ fn no_frame(answer: u32, missing: usize, took: usize, next: Stream) -> StreamAns
 fn told(answer: Pushed) -> StreamAnswer
     ensures { result ≡ stream_answer (means_pushed answer) }
 {
-    let took = answer.took;
-    let next = answer.next;
-    let says = answer.says;
+    let Pushed { says, took, next } = answer;
     match says {
         Says::InCut(f) => StreamAnswer {
-            answer: answers::PLAIN,
             stands: IN_CUT,
             kind: f.kind,
             len: f.len,
             total: f.total,
-            missing: 0,
-            took,
-            next,
+            ..no_frame(answers::PLAIN, 0, took, next)
         },
         Says::InBuffer(f) => StreamAnswer {
-            answer: answers::PLAIN,
             stands: IN_BUFFER,
             kind: f.kind,
             len: f.len,
             total: f.total,
-            missing: 0,
-            took,
-            next,
+            ..no_frame(answers::PLAIN, 0, took, next)
         },
         Says::More { missing } => no_frame(answers::MORE, missing, took, next),
         Says::End => no_frame(answers::END, 0, took, next),
-        Says::Refused(why) => no_frame(frame::number(why), frame::missing(why), took, next),
+        Says::Refused(why) => no_frame(u32::from(why), why.missing(), took, next),
         Says::Malformed => no_frame(answers::MALFORMED, 0, took, next),
     }
 }

@@ -7,11 +7,11 @@ ghost use Rattle.writer.specs.Write.{write, write_leaves};
 ghost use Rattle.orizhgum.specs.Written.{write_answer};
 
 use record::{
-    ChannelHeartbeat, Index, Order, Resend, SecurityStatus, Snapshot, Statistics, Trade,
+    ChannelHeartbeat, Heartbeat, Index, Order, Resend, SecurityStatus, Snapshot, Statistics, Trade,
     VolumeIndex,
 };
 use wire::answers::PLAIN;
-use writer::Written;
+use writer::{Refusal, write_as};
 
 // How many bytes were written; 0 where it is refused, and the output is as it stood.
 #[repr(C)]
@@ -21,21 +21,24 @@ pub struct WriteAnswer {
     pub written: usize,
 }
 
-fn answer_of(written: Written) -> WriteAnswer
-    ensures { result ≡ write_answer (writer_paper.means_written written) }
-{
-    match written {
-        Written::Whole(n) => WriteAnswer {
-            answer: PLAIN,
-            written: n,
-        },
-        Written::Refused(x) => WriteAnswer {
-            answer: x.number(),
-            written: 0,
-        },
+impl From<Result<usize, Refusal>> for WriteAnswer {
+    ghost from_gives = { λ r a. a ≡ write_answer (writer_paper.means_written r) };
+
+    fn from(written: Result<usize, Refusal>) -> WriteAnswer {
+        match written {
+            Ok(written) => WriteAnswer {
+                answer: PLAIN,
+                written,
+            },
+            Err(x) => WriteAnswer {
+                answer: u32::from(x),
+                written: 0,
+            },
+        }
     }
 }
 
+// C interface: what is exported has no type parameters, so each type has a call of its own.
 pub fn orizhgum_write_order(
     numbers: Order,
     texts: &[u8],
@@ -45,7 +48,7 @@ pub fn orizhgum_write_order(
     ensures value { result ≡ write_answer (write (means_record (is.Order numbers)) texts.now groups.now out.old) }
     ensures out_after { out.new ≡ write_leaves (means_record (is.Order numbers)) texts.now groups.now out.old }
 {
-    answer_of(writer::write_order(numbers, texts, groups, out))
+    write_as(numbers, texts, groups, out).into()
 }
 
 pub fn orizhgum_write_trade(
@@ -57,7 +60,7 @@ pub fn orizhgum_write_trade(
     ensures value { result ≡ write_answer (write (means_record (is.Trade numbers)) texts.now groups.now out.old) }
     ensures out_after { out.new ≡ write_leaves (means_record (is.Trade numbers)) texts.now groups.now out.old }
 {
-    answer_of(writer::write_trade(numbers, texts, groups, out))
+    write_as(numbers, texts, groups, out).into()
 }
 
 pub fn orizhgum_write_channel_heartbeat(
@@ -69,7 +72,7 @@ pub fn orizhgum_write_channel_heartbeat(
     ensures value { result ≡ write_answer (write (means_record (is.ChannelHeartbeat numbers)) texts.now groups.now out.old) }
     ensures out_after { out.new ≡ write_leaves (means_record (is.ChannelHeartbeat numbers)) texts.now groups.now out.old }
 {
-    answer_of(writer::write_channel_heartbeat(numbers, texts, groups, out))
+    write_as(numbers, texts, groups, out).into()
 }
 
 pub fn orizhgum_write_resend(
@@ -81,7 +84,7 @@ pub fn orizhgum_write_resend(
     ensures value { result ≡ write_answer (write (means_record (is.Resend numbers)) texts.now groups.now out.old) }
     ensures out_after { out.new ≡ write_leaves (means_record (is.Resend numbers)) texts.now groups.now out.old }
 {
-    answer_of(writer::write_resend(numbers, texts, groups, out))
+    write_as(numbers, texts, groups, out).into()
 }
 
 pub fn orizhgum_write_snapshot(
@@ -93,7 +96,7 @@ pub fn orizhgum_write_snapshot(
     ensures value { result ≡ write_answer (write (means_record (is.Snapshot numbers)) texts.now groups.now out.old) }
     ensures out_after { out.new ≡ write_leaves (means_record (is.Snapshot numbers)) texts.now groups.now out.old }
 {
-    answer_of(writer::write_snapshot(numbers, texts, groups, out))
+    write_as(numbers, texts, groups, out).into()
 }
 
 pub fn orizhgum_write_index(
@@ -105,7 +108,7 @@ pub fn orizhgum_write_index(
     ensures value { result ≡ write_answer (write (means_record (is.Index numbers)) texts.now groups.now out.old) }
     ensures out_after { out.new ≡ write_leaves (means_record (is.Index numbers)) texts.now groups.now out.old }
 {
-    answer_of(writer::write_index(numbers, texts, groups, out))
+    write_as(numbers, texts, groups, out).into()
 }
 
 pub fn orizhgum_write_volume_index(
@@ -117,7 +120,7 @@ pub fn orizhgum_write_volume_index(
     ensures value { result ≡ write_answer (write (means_record (is.VolumeIndex numbers)) texts.now groups.now out.old) }
     ensures out_after { out.new ≡ write_leaves (means_record (is.VolumeIndex numbers)) texts.now groups.now out.old }
 {
-    answer_of(writer::write_volume_index(numbers, texts, groups, out))
+    write_as(numbers, texts, groups, out).into()
 }
 
 pub fn orizhgum_write_statistics(
@@ -129,7 +132,7 @@ pub fn orizhgum_write_statistics(
     ensures value { result ≡ write_answer (write (means_record (is.Statistics numbers)) texts.now groups.now out.old) }
     ensures out_after { out.new ≡ write_leaves (means_record (is.Statistics numbers)) texts.now groups.now out.old }
 {
-    answer_of(writer::write_statistics(numbers, texts, groups, out))
+    write_as(numbers, texts, groups, out).into()
 }
 
 pub fn orizhgum_write_security_status(
@@ -141,12 +144,12 @@ pub fn orizhgum_write_security_status(
     ensures value { result ≡ write_answer (write (means_record (is.SecurityStatus numbers)) texts.now groups.now out.old) }
     ensures out_after { out.new ≡ write_leaves (means_record (is.SecurityStatus numbers)) texts.now groups.now out.old }
 {
-    answer_of(writer::write_security_status(numbers, texts, groups, out))
+    write_as(numbers, texts, groups, out).into()
 }
 
 pub fn orizhgum_write_heartbeat(texts: &[u8], groups: &[u8], out: &mut [u8]) -> WriteAnswer
     ensures value { result ≡ write_answer (write (means_record is.Heartbeat) texts.now groups.now out.old) }
     ensures out_after { out.new ≡ write_leaves (means_record is.Heartbeat) texts.now groups.now out.old }
 {
-    answer_of(writer::write_heartbeat(texts, groups, out))
+    write_as(Heartbeat, texts, groups, out).into()
 }

@@ -1,4 +1,5 @@
 // The calls of `orizhgum` for C: each export has the parameters and the promise of the call of that name there, and passes its answer on.
+// C links these names, with these parameters: a call of its own for each, over what the demands speak of.
 #![tactic(auto)]
 
 ghost use Rattle.std.specs.Prelude.{◌≡◌};

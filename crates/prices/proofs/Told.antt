@@ -1,18 +1,16 @@
 -- An entry with its price, by what it says.
 -- Assumes nothing.
 use Prim.Native.Nat.{ℕ, ◌-◌}
-use mathlib.Core.Path.{◌≡◌, refl, ap, sym, ◌∙◌}
-use mathlib.Core.List.{List}
+use mathlib.Core.Path.{◌≡◌, refl, sym}
+use mathlib.Core.List.{List, []}
 use lib.IntN.{ℤ}
-use Rattle.wire.specs.Answer.{Answer, accepted}
+use Rattle.wire.specs.Answer.{Answer, accepted, refused}
 use Rattle.wire.specs.Number.{plain, no_such_entry_number}
 use Rattle.wire.specs.Bytes.{be_at}
 use Rattle.layout.specs.Layout.{Entries, entry_group, entries, values}
 use Rattle.layout.specs.Group.{next_offset, judge_groups}
-use Rattle.layout.specs.Paper.{body_refusal, means_verdict}
+use Rattle.layout.specs.Paper.{body_refusal}
 use Rattle.layout.specs.declared.group.Refusal.{Refusal}
-use Rattle.layout.specs.declared.group.Verdict.{Verdict}
-use Rattle.layout.specs.declared.group.Verdict.TheVariants.{Refused}
 use Rattle.record.specs.Asked.{Asked}
 use Rattle.entries.specs.Entry.{Says, Stepped, says_in, entry_at, step_in, entry_found}
 use Rattle.entries.proofs.Entries.{step-none, step-refused, step-found}
@@ -44,9 +42,9 @@ module _ (e : Entries) (s : List ℕ) (p k : ℕ) (z : ℤ) where
   none_left h f = rw (step-none e s p k h) (f, refl)
 
   module _ (h : k ≡ 0 → ⊥) where
-    pub refused-there : (x : Refusal) {v : Verdict} {r : StepAnswer} → means_verdict v ≡ judge_groups (entry_group e) s p 1 → v ≡ Refused x → r ≡ record { answer = body_refusal x; entry = no_entry; next = record { offset = p; left = k } } → Answers r z
+    pub refused-there : (x : Refusal) {r : StepAnswer} → judge_groups (entry_group e) s p 1 ≡ refused (body_refusal x) [] → r ≡ record { answer = body_refusal x; entry = no_entry; next = record { offset = p; left = k } } → Answers r z
     unfolding step_answer priced_left
-    refused-there x j d f = rw (step-refused e s p k h (sym j ∙ ap means_verdict d)) (f, refl)
+    refused-there x j f = rw (step-refused e s p k h j) (f, refl)
 
     pub stepped-over : {r : StepAnswer} {y : ℤ} → judge_groups (entry_group e) s p 1 ≡ accepted tt → (r ≡ record { answer = plain; entry = entry_from_c (entry_at e s p); next = record { offset = next_offset (entry_group e) s p; left = k - 1 } }) × (y ≡ price_left (price_of (entry_at e s p).says) z) → Answers r y
     unfolding step_answer priced_left

@@ -7,6 +7,8 @@ use Rattle.entries.specs.Entry.{Says, level, level_without_price, price, size, b
 use Rattle.entries.specs.Entry as entry_of
 use Rattle.entries.specs.declared.cursor.Cursor.{Cursor}
 use Rattle.wire.specs.Number.{plain, no_such_entry_number, no_price}
+use Rattle.prices.specs.declared.entry.Thing.{Thing}
+use Rattle.prices.specs.declared.entry.Thing.TheVariants as thing
 use Rattle.prices.specs.declared.entry.Entry.{Entry}
 use Rattle.prices.specs.declared.entry.EntryAnswer.{EntryAnswer}
 use Rattle.prices.specs.declared.entry.StepAnswer.{StepAnswer}
@@ -76,6 +78,16 @@ says_no_limit = 6
 
 abbrev pub says_unknown : ℕ
 says_unknown = 7
+
+-- the code's names for them
+abbrev pub thing_number : Thing → ℕ
+thing_number thing.Level = says_level
+thing_number thing.LevelWithoutPrice = says_level_without_price
+thing_number thing.Price = says_price
+thing_number thing.Size = says_size
+thing_number thing.Both = says_both
+thing_number thing.NoLimit = says_no_limit
+thing_number thing.Unknown = says_unknown
 
 -- an entry of some type characters that says at most a size
 abbrev pub bare : ℕ → ℕ → ℤ → Entry

@@ -2,28 +2,27 @@
 ghost use Rattle.std.specs.Prelude.{◌≡◌};
 ghost use Rattle.layout.specs.Layout.{named};
 ghost use Rattle.entries.specs.Entry.{entry_of, step, entry_found};
-ghost use Rattle.entries.specs.Paper.{means_says, means_entry, means_cursor};
-ghost use Rattle.prices.specs.Entries.{bare, price_of, price_number, price_left, entry_from_c, no_entry, entry_answer, pricing, priced_left};
+ghost use Rattle.entries.specs.Paper.{means_says, means_entry, means_asked_entry, means_cursor};
+ghost use Rattle.prices.specs.Entries.{thing_number, bare, price_of, price_number, price_left, entry_from_c, no_entry, entry_answer, pricing, priced_left};
 
-use entries::{AskedEntry, Cursor, Says, Step};
+use entries::{Cursor, Says};
+use layout::Refusal;
 use wire::answers::{NO_PRICE, NO_SUCH_ENTRY, PLAIN};
 
-// The seven things that an entry says, by number.
-pub(crate) const LEVEL: u32 = 1;
+// The seven things that an entry says.
+#[derive(Clone, Copy)]
+pub(crate) enum Thing {
+    Level = 1,
+    LevelWithoutPrice,
+    Price,
+    Size,
+    Both,
+    NoLimit,
+    Unknown,
+}
 
-pub(crate) const LEVEL_WITHOUT_PRICE: u32 = 2;
-
-pub(crate) const PRICE: u32 = 3;
-
-pub(crate) const SIZE: u32 = 4;
-
-pub(crate) const BOTH: u32 = 5;
-
-pub(crate) const NO_LIMIT: u32 = 6;
-
-pub(crate) const UNKNOWN: u32 = 7;
-
-// An entry without its price: its two type characters, the first the higher byte, which of the seven things it says, and the numbers that go with that; the others are zero.
+// An entry without its price: its two type characters, the first the higher byte, which of the seven things it says, as a number (a struct of the C
+// interface), and the numbers that go with that; the others are zero.
 #[repr(C)]
 #[derive(Clone, Copy)]
 pub struct Entry {
@@ -35,6 +34,7 @@ pub struct Entry {
     pub shown: u32,
 }
 
+// The number of an answer, and an entry that is all zero where there is none: structs of the C interface.
 #[repr(C)]
 #[derive(Clone, Copy)]
 pub struct EntryAnswer {
@@ -64,11 +64,11 @@ pub(crate) fn no_entry() -> Entry
 }
 
 // An entry that says at most a size.
-pub(crate) fn bare_entry(says: u32, characters: u16, size: i64) -> Entry
-    ensures { result ≡ bare says characters size }
+pub(crate) fn bare_entry(says: Thing, characters: u16, size: i64) -> Entry
+    ensures { result ≡ bare (thing_number says) characters size }
 {
     Entry {
-        says,
+        says: says as u32,
         characters,
         level: 0,
         size,
@@ -77,122 +77,107 @@ pub(crate) fn bare_entry(says: u32, characters: u16, size: i64) -> Entry
     }
 }
 
-fn without_price(e: entries::Entry) -> Entry
-    ensures { result ≡ entry_from_c (means_entry e) }
-{
-    let characters = e.characters;
-    let says = e.says;
-    match says {
-        Says::Level {
-            entry_price: _,
-            size,
-            level,
-            order_count,
-            shown,
-        } => Entry {
-            says: LEVEL,
-            characters,
-            level,
-            size,
-            order_count,
-            shown,
-        },
-        Says::LevelWithoutPrice {
-            size,
-            level,
-            order_count,
-            shown,
-        } => Entry {
-            says: LEVEL_WITHOUT_PRICE,
-            characters,
-            level,
-            size,
-            order_count,
-            shown,
-        },
-        Says::Price { entry_price: _ } => bare_entry(PRICE, characters, 0),
-        Says::Size { size } => bare_entry(SIZE, characters, size),
-        Says::Both {
-            entry_price: _,
-            size,
-        } => bare_entry(BOTH, characters, size),
-        Says::NoLimit => bare_entry(NO_LIMIT, characters, 0),
-        Says::Unknown => bare_entry(UNKNOWN, characters, 0),
+// An entry without its price.
+impl From<entries::Entry> for Entry {
+    ghost from_gives = { λ e r. r ≡ entry_from_c (means_entry e) };
+
+    fn from(e: entries::Entry) -> Entry {
+        let characters = e.characters;
+        match e.says {
+            Says::Level {
+                size,
+                level,
+                order_count,
+                shown,
+                ..
+            } => Entry {
+                says: Thing::Level as u32,
+                characters,
+                level,
+                size,
+                order_count,
+                shown,
+            },
+            Says::LevelWithoutPrice {
+                size,
+                level,
+                order_count,
+                shown,
+            } => Entry {
+                says: Thing::LevelWithoutPrice as u32,
+                characters,
+                level,
+                size,
+                order_count,
+                shown,
+            },
+            Says::Price { .. } => bare_entry(Thing::Price, characters, 0),
+            Says::Size { size } => bare_entry(Thing::Size, characters, size),
+            Says::Both { size, .. } => bare_entry(Thing::Both, characters, size),
+            Says::NoLimit => bare_entry(Thing::NoLimit, characters, 0),
+            Says::Unknown => bare_entry(Thing::Unknown, characters, 0),
+        }
     }
 }
 
 // The price that an entry says goes to the lent number; where it says none, the number is left as it stood.
+// Here and below the answer is the number that the C interface gives.
 fn give(says: Says, price: &mut i64) -> u32
     ensures value { result ≡ price_number (price_of (means_says says)) }
     ensures price_after { price.new ≡ price_left (price_of (means_says says)) price.old }
 {
     match says {
-        Says::Level {
-            entry_price,
-            size: _,
-            level: _,
-            order_count: _,
-            shown: _,
-        } => {
+        Says::Level { entry_price, .. }
+        | Says::Price { entry_price }
+        | Says::Both { entry_price, .. } => {
             *price = entry_price;
             PLAIN
         }
-        Says::LevelWithoutPrice {
-            size: _,
-            level: _,
-            order_count: _,
-            shown: _,
-        } => NO_PRICE,
-        Says::Price { entry_price } => {
-            *price = entry_price;
-            PLAIN
-        }
-        Says::Size { size: _ } => NO_PRICE,
-        Says::Both {
-            entry_price,
-            size: _,
-        } => {
-            *price = entry_price;
-            PLAIN
-        }
+        Says::LevelWithoutPrice { .. } | Says::Size { .. } | Says::Unknown => NO_PRICE,
         Says::NoLimit => NO_PRICE,
-        Says::Unknown => NO_PRICE,
+    }
+}
+
+// The price of what was asked for; "no price" leaves the lent number as it stood, and so does every refusal.
+#[tactic(auto, unfolding(crate::specs::Entries::pricing, crate::specs::Entries::priced_left))]
+fn price_in(asked: Result<Option<entries::Entry>, Refusal>, price: &mut i64) -> u32
+    ensures value { result ≡ pricing (means_asked_entry asked) }
+    ensures price_after { price.new ≡ priced_left (means_asked_entry asked) price.old }
+{
+    match asked {
+        Ok(Some(e)) => give(e.says, price),
+        Ok(None) => NO_SUCH_ENTRY,
+        Err(why) => u32::from(why),
     }
 }
 
 // Entry i of a body, from 0.
+#[tactic(auto, unfolding(crate::specs::Entries::entry_answer))]
 pub fn entry_of(kind: u32, body: &[u8], i: u32) -> EntryAnswer
     ensures { result ≡ entry_answer (entry_of kind body.now i) }
 {
     match entries::entry_of(kind, body, i) {
-        AskedEntry::Found(e) => EntryAnswer {
+        Ok(Some(e)) => EntryAnswer {
             answer: PLAIN,
-            entry: without_price(e),
+            entry: Entry::from(e),
         },
-        AskedEntry::NoSuchEntry => EntryAnswer {
+        Ok(None) => EntryAnswer {
             answer: NO_SUCH_ENTRY,
             entry: no_entry(),
         },
-        AskedEntry::Refused(x) => EntryAnswer {
-            answer: x.number(),
+        Err(why) => EntryAnswer {
+            answer: u32::from(why),
             entry: no_entry(),
         },
     }
 }
 
-// The price of entry i; "no price" leaves the lent number as it stood, and so does every refusal.
+// The price of entry i.
 pub fn price_of(kind: u32, body: &[u8], i: u32, price: &mut i64) -> u32
     ensures value { result ≡ pricing (entry_of kind body.now i) }
     ensures price_after { price.new ≡ priced_left (entry_of kind body.now i) price.old }
 {
-    match entries::entry_of(kind, body, i) {
-        AskedEntry::Found(e) => {
-            let says = e.says;
-            give(says, price)
-        }
-        AskedEntry::NoSuchEntry => NO_SUCH_ENTRY,
-        AskedEntry::Refused(x) => x.number(),
-    }
+    price_in(entries::entry_of(kind, body, i), price)
 }
 
 // The price of the entry at a cursor, as that of entry i.
@@ -200,12 +185,8 @@ pub fn step_price(at: Cursor, kind: u32, body: &[u8], price: &mut i64) -> u32
     ensures value { result ≡ pricing (entry_found (step (named kind) body.now (means_cursor at))) }
     ensures price_after { price.new ≡ priced_left (entry_found (step (named kind) body.now (means_cursor at))) price.old }
 {
-    match at.step(kind, body) {
-        Step::Found(e, _) => {
-            let says = e.says;
-            give(says, price)
-        }
-        Step::NoSuchEntry => NO_SUCH_ENTRY,
-        Step::Refused(x) => x.number(),
-    }
+    price_in(
+        at.step(kind, body).map(|found| found.map(|(e, _)| e)),
+        price,
+    )
 }

@@ -1,25 +1,24 @@
 // The step that gives an entry with its price. A chain of its own, straight to the answer: no entry is built as one of seven things on the way.
 ghost use Rattle.std.specs.Prelude.{◌≡◌, true, cond};
 ghost use Rattle.wire.specs.Number.{plain};
-ghost use Rattle.layout.specs.Layout.{of_snapshot, of_index, snapshot_entries, index_entries, entries, named, values};
+ghost use Rattle.layout.specs.Layout.{Entries, of_snapshot, of_index, snapshot_entries, entry_group, entries, named, values};
 ghost use Rattle.layout.specs.Group.{fit, next_offset};
+ghost use Rattle.layout.specs.Paper.{means_groups};
 ghost use Rattle.entries.specs.Entry.{same, level_said, entry_at, step_in, step, entry_found};
 ghost use Rattle.entries.specs.Entry as of;
 ghost use Rattle.entries.specs.Paper.{means_cursor};
-ghost use Rattle.prices.specs.Entries.{bare, saying, entry_from_c, price_of, price_left, priced_left, step_answer, no_entry};
+ghost use Rattle.prices.specs.Entries.{thing_number, bare, saying, entry_from_c, price_of, price_left, priced_left, step_answer, no_entry};
 
-use crate::entry::{
-    BOTH, Entry, LEVEL, LEVEL_WITHOUT_PRICE, NO_LIMIT, PRICE, SIZE, StepAnswer, UNKNOWN,
-    bare_entry, no_entry,
-};
+use crate::entry::{Entry, StepAnswer, Thing, bare_entry, no_entry};
 use entries::{Cursor, Says};
-use layout::{Groups, Verdict, entry, index_entry, width};
+use layout::{Groups, entry, index_entry, width};
 use record::Record;
+use wire::Number;
 use wire::answers::{NO_SUCH_ENTRY, PLAIN};
 
 // An entry that says a price and at most a size.
-fn priced(says: u32, characters: u16, size: i64, own: i64, price: &mut i64) -> Entry
-    ensures value { result ≡ bare says characters size }
+fn priced(says: Thing, characters: u16, size: i64, own: i64, price: &mut i64) -> Entry
+    ensures value { result ≡ bare (thing_number says) characters size }
     ensures price_after { price.new ≡ own }
 {
     *price = own;
@@ -31,25 +30,20 @@ fn leveled(e: &[u8], characters: u16, price: &mut i64) -> Entry
     ensures value { result ≡ saying characters (level_said (values snapshot_entries.fields e.now 0)) }
     ensures price_after { price.new ≡ price_left (price_of (level_said (values snapshot_entries.fields e.now 0))) price.old }
 {
-    let own = wire::i64_at(e, entry::PRICE);
-    if own == 0 {
-        return Entry {
-            says: LEVEL_WITHOUT_PRICE,
-            characters,
-            level: wire::be2(e, entry::LEVEL),
-            size: wire::i64_at(e, entry::SIZE),
-            order_count: wire::i64_at(e, entry::ORDER_COUNT),
-            shown: wire::be4(e, entry::SHOWN_COUNT),
-        };
-    }
-    *price = own;
+    let own = i64::at(e, entry::PRICE);
+    let says = if own == 0 {
+        Thing::LevelWithoutPrice
+    } else {
+        *price = own;
+        Thing::Level
+    };
     Entry {
-        says: LEVEL,
+        says: says as u32,
         characters,
-        level: wire::be2(e, entry::LEVEL),
-        size: wire::i64_at(e, entry::SIZE),
-        order_count: wire::i64_at(e, entry::ORDER_COUNT),
-        shown: wire::be4(e, entry::SHOWN_COUNT),
+        level: u16::at(e, entry::LEVEL),
+        size: i64::at(e, entry::SIZE),
+        order_count: i64::at(e, entry::ORDER_COUNT),
+        shown: u32::at(e, entry::SHOWN_COUNT),
     }
 }
 
@@ -59,9 +53,9 @@ fn limit(characters: u16, own: i64, mark: i64, price: &mut i64) -> Entry
     ensures price_after { price.new ≡ price_left (price_of (cond (same own mark) of.no_limit (of.price own))) price.old }
 {
     if own == mark {
-        return bare_entry(NO_LIMIT, characters, 0);
+        return bare_entry(Thing::NoLimit, characters, 0);
     }
-    priced(PRICE, characters, 0, own, price)
+    priced(Thing::Price, characters, 0, own, price)
 }
 
 // The entry of a snapshot, and of an index, that some bytes start with.
@@ -69,110 +63,116 @@ fn snapshot_entry(e: &[u8], price: &mut i64) -> Entry
     ensures value { result ≡ entry_from_c (entry_at of_snapshot e.now 0) }
     ensures price_after { price.new ≡ price_left (price_of (entry_at of_snapshot e.now 0).says) price.old }
 {
-    let characters = wire::be2(e, entry::ENTRY_TYPE);
-    if entries::is_level(characters) {
-        return leveled(e, characters, price);
+    let characters = u16::at(e, entry::ENTRY_TYPE);
+    let own = i64::at(e, entry::PRICE);
+    match characters {
+        c if entries::is_level(c) => leveled(e, characters, price),
+        c if entries::is_price(c) => priced(Thing::Price, characters, 0, own, price),
+        Says::XE => limit(characters, own, Says::NO_UPPER_LIMIT, price),
+        Says::XF => limit(characters, own, Says::NO_LOWER_LIMIT, price),
+        Says::XG => bare_entry(Thing::Size, characters, i64::at(e, entry::SIZE)),
+        c if entries::is_both(c) => {
+            priced(Thing::Both, characters, i64::at(e, entry::SIZE), own, price)
+        }
+        _ => bare_entry(Thing::Unknown, characters, 0),
     }
-    let own = wire::i64_at(e, entry::PRICE);
-    if entries::is_price(characters) {
-        return priced(PRICE, characters, 0, own, price);
-    }
-    if characters == Says::XE {
-        return limit(characters, own, Says::NO_UPPER_LIMIT, price);
-    }
-    if characters == Says::XF {
-        return limit(characters, own, Says::NO_LOWER_LIMIT, price);
-    }
-    if characters == Says::XG {
-        return bare_entry(SIZE, characters, wire::i64_at(e, entry::SIZE));
-    }
-    if entries::is_both(characters) {
-        return priced(BOTH, characters, wire::i64_at(e, entry::SIZE), own, price);
-    }
-    bare_entry(UNKNOWN, characters, 0)
 }
 
 fn index_entry(e: &[u8], price: &mut i64) -> Entry
     ensures value { result ≡ entry_from_c (entry_at of_index e.now 0) }
     ensures price_after { price.new ≡ price_left (price_of (entry_at of_index e.now 0).says) price.old }
 {
-    let characters = wire::be2(e, index_entry::ENTRY_TYPE);
+    let characters = u16::at(e, index_entry::ENTRY_TYPE);
     if entries::is_index_price(characters) {
         return priced(
-            PRICE,
+            Thing::Price,
             characters,
             0,
-            wire::i64_at(e, index_entry::PRICE),
+            i64::at(e, index_entry::PRICE),
             price,
         );
     }
-    bare_entry(UNKNOWN, characters, 0)
+    bare_entry(Thing::Unknown, characters, 0)
 }
 
 // No entry: the cursor stays.
-fn none(answer: u32, offset: usize, left: u32) -> StepAnswer
-    ensures { result ≡ record { answer = answer; entry = no_entry; next = record { offset = offset; left = left } } }
+fn none(answer: u32, at: Cursor) -> StepAnswer
+    ensures { result ≡ record { answer = answer; entry = no_entry; next = at } }
 {
     StepAnswer {
         answer,
         entry: no_entry(),
-        next: Cursor { offset, left },
+        next: at,
     }
 }
 
-// The step over an entry that is there, with some left behind it.
-fn over_snapshot(s: &[u8], p: usize, left: u32, price: &mut i64) -> StepAnswer
-    requires { fit snapshot_entries s.now p 1 ≡ true }
-    ensures value { result ≡ record { answer = plain; entry = entry_from_c (entry_at of_snapshot s.now p); next = record { offset = next_offset snapshot_entries s.now p; left = left } } }
-    ensures price_after { price.new ≡ price_left (price_of (entry_at of_snapshot s.now p).says) price.old }
-{
-    let q = p + entry::WIDTH;
-    let e = &s[p..q];
-    let offset = q + width::QUANTITY * (wire::be4(e, entry::SHOWN_COUNT) as usize);
-    StepAnswer {
-        answer: PLAIN,
-        entry: snapshot_entry(e, price),
-        next: Cursor { offset, left },
+// A snapshot's entries, or an index's.
+trait Steps {
+    // Whose they are.
+    ghost whose: { Entries };
+
+    // The groups that they are.
+    fn groups() -> Groups
+        ensures { means_groups result ≡ entry_group whose };
+
+    // The step over an entry that is there, with some left behind it.
+    fn over(s: &[u8], p: usize, left: u32, price: &mut i64) -> StepAnswer
+        requires { fit (entry_group whose) s.now p 1 ≡ true }
+        ensures value { result ≡ record { answer = plain; entry = entry_from_c (entry_at whose s.now p); next = record { offset = next_offset (entry_group whose) s.now p; left = left } } }
+        ensures price_after { price.new ≡ price_left (price_of (entry_at whose s.now p).says) price.old };
+}
+
+struct OfSnapshot;
+
+struct OfIndex;
+
+impl Steps for OfSnapshot {
+    ghost whose = { of_snapshot };
+
+    fn groups() -> Groups {
+        Groups::SnapshotEntries
+    }
+
+    fn over(s: &[u8], p: usize, left: u32, price: &mut i64) -> StepAnswer {
+        let q = p + entry::WIDTH;
+        let e = &s[p..q];
+        let offset = q + width::QUANTITY * (u32::at(e, entry::SHOWN_COUNT) as usize);
+        StepAnswer {
+            answer: PLAIN,
+            entry: snapshot_entry(e, price),
+            next: Cursor { offset, left },
+        }
     }
 }
 
-fn over_index(s: &[u8], p: usize, left: u32, price: &mut i64) -> StepAnswer
-    requires { fit index_entries s.now p 1 ≡ true }
-    ensures value { result ≡ record { answer = plain; entry = entry_from_c (entry_at of_index s.now p); next = record { offset = next_offset index_entries s.now p; left = left } } }
-    ensures price_after { price.new ≡ price_left (price_of (entry_at of_index s.now p).says) price.old }
-{
-    let q = p + index_entry::WIDTH;
-    StepAnswer {
-        answer: PLAIN,
-        entry: index_entry(&s[p..q], price),
-        next: Cursor { offset: q, left },
+impl Steps for OfIndex {
+    ghost whose = { of_index };
+
+    fn groups() -> Groups {
+        Groups::IndexEntries
+    }
+
+    fn over(s: &[u8], p: usize, left: u32, price: &mut i64) -> StepAnswer {
+        let q = p + index_entry::WIDTH;
+        StepAnswer {
+            answer: PLAIN,
+            entry: index_entry(&s[p..q], price),
+            next: Cursor { offset: q, left },
+        }
     }
 }
 
-// The step in a snapshot, and in an index, after 4 and 5 for the entry's own fields and shown quantities.
-fn in_snapshot(offset: usize, left: u32, body: &[u8], price: &mut i64) -> StepAnswer
-    ensures value { result ≡ step_answer (step_in (entries of_snapshot) body.now (record { offset = offset; left = left })) (record { offset = offset; left = left }) }
-    ensures price_after { price.new ≡ priced_left (entry_found (step_in (entries of_snapshot) body.now (record { offset = offset; left = left }))) price.old }
+// The step over such entries, after 4 and 5 for the entry's own fields and shown quantities.
+fn step_in<E: Steps>(at: Cursor, body: &[u8], price: &mut i64) -> StepAnswer
+    ensures value { result ≡ step_answer (step_in (entries E.whose) body.now (means_cursor at)) at }
+    ensures price_after { price.new ≡ priced_left (entry_found (step_in (entries E.whose) body.now (means_cursor at))) price.old }
 {
-    if left == 0 {
-        return none(NO_SUCH_ENTRY, offset, left);
+    if at.left == 0 {
+        return none(NO_SUCH_ENTRY, at);
     }
-    match layout::judge(Groups::SnapshotEntries, body, offset, 1) {
-        Verdict::Accepted => over_snapshot(body, offset, left - 1, price),
-        Verdict::Refused(x) => none(x.number(), offset, left),
-    }
-}
-
-fn in_index(offset: usize, left: u32, body: &[u8], price: &mut i64) -> StepAnswer
-    ensures value { result ≡ step_answer (step_in (entries of_index) body.now (record { offset = offset; left = left })) (record { offset = offset; left = left }) }
-    ensures price_after { price.new ≡ priced_left (entry_found (step_in (entries of_index) body.now (record { offset = offset; left = left }))) price.old }
-{
-    if left == 0 {
-        return none(NO_SUCH_ENTRY, offset, left);
-    }
-    match layout::judge(Groups::IndexEntries, body, offset, 1) {
-        Verdict::Accepted => over_index(body, offset, left - 1, price),
-        Verdict::Refused(x) => none(x.number(), offset, left),
+    match layout::judge(E::groups(), body, at.offset, 1) {
+        Ok(()) => E::over(body, at.offset, at.left - 1, price),
+        Err(why) => none(u32::from(why), at),
     }
 }
 
@@ -181,11 +181,9 @@ pub fn next(at: Cursor, kind: u32, body: &[u8], price: &mut i64) -> StepAnswer
     ensures value { result ≡ step_answer (step (named kind) body.now (means_cursor at)) at }
     ensures price_after { price.new ≡ priced_left (entry_found (step (named kind) body.now (means_cursor at))) price.old }
 {
-    let offset = at.offset;
-    let left = at.left;
     match kind {
-        Record::SNAPSHOT => in_snapshot(offset, left, body, price),
-        Record::INDEX => in_index(offset, left, body, price),
-        _ => none(NO_SUCH_ENTRY, offset, left),
+        Record::SNAPSHOT => step_in::<OfSnapshot>(at, body, price),
+        Record::INDEX => step_in::<OfIndex>(at, body, price),
+        _ => none(NO_SUCH_ENTRY, at),
     }
 }

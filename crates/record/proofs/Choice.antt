@@ -11,7 +11,9 @@ use Rattle.wire.specs.Answer.{accepted}
 use Rattle.layout.specs.Layout.{Message, heartbeat, channel_heartbeat, resend, statistics, security_status, snapshot, index, volume_index, order, trade, type_number, listed, unlisted, chosen, messages, named}
 use Rattle.layout.specs.Group.{judge_body}
 use Rattle.record.specs.Asked.{with_texts, judge}
-use Rattle.record.specs.Record.{unknown, read_as, read_body, is_listed}
+use Rattle.record.specs.Paper.{layout_of}
+use Rattle.record.specs.declared.kind.Kind.{Kind}
+use Rattle.record.specs.Record.{unknown, read_as, read_body, groups_as, groups_of}
 
 -- the number of a listed type chooses it
 pub named_as : (m : Message) {t : ℕ} → t ≡ type_number m → named t ≡ listed m
@@ -72,18 +74,28 @@ module _ (s : List ℕ) where
   unfolding read_body
   reads_as m e = rw (named_as m e)
 
-  pub reads_none : {t : ℕ} → None t → with_texts (accepted (unknown t)) [] ≡ read_body t s
+  -- by the kind that the code found
+  pub reads_by : (t : ℕ) (x k : Kind) → k ≡ x → listed (layout_of k) ≡ named t → read_as (layout_of x) s ≡ read_body t s
   unfolding read_body
-  reads_none n = rw (named_none n)
+  reads_by t x k p e = rw (← p, ← e)
+
+  pub reads_unlisted : {t : ℕ} → unlisted ≡ named t → with_texts (accepted (unknown t)) [] ≡ read_body t s
+  unfolding read_body
+  reads_unlisted e = rw (← e)
 
   pub judges_as : (m : Message) {t : ℕ} → t ≡ type_number m → judge_body m s ≡ judge t s
   judges_as m e = rw (named_as m e)
 
-  pub judges_none : {t : ℕ} → None t → accepted tt ≡ judge t s
-  judges_none n = rw (named_none n)
+  pub judges_by : (t : ℕ) (x k : Kind) → k ≡ x → listed (layout_of k) ≡ named t → judge_body (layout_of x) s ≡ judge t s
+  judges_by t x k p e = rw (← p, ← e)
 
-pub lists_as : (m : Message) {t : ℕ} → t ≡ type_number m → true ≡ is_listed (named t)
-lists_as m e = rw (named_as m e)
+  pub judges_unlisted : (t : ℕ) → unlisted ≡ named t → accepted tt ≡ judge t s
+  judges_unlisted t e = rw (← e)
 
-pub lists_none : {t : ℕ} → None t → false ≡ is_listed (named t)
-lists_none n = rw (named_none n)
+  pub parts_by : (t : ℕ) (x k : Kind) → k ≡ x → listed (layout_of k) ≡ named t → groups_as (layout_of x) s ≡ groups_of t s
+  unfolding groups_of
+  parts_by t x k p e = rw (← p, ← e)
+
+  pub parts_unlisted : (t : ℕ) → unlisted ≡ named t → [] ≡ groups_of t s
+  unfolding groups_of
+  parts_unlisted t e = rw (← e)

@@ -8,8 +8,12 @@ use lib.ListN.{length, take, drop}
 use lib.Seq.{take-add, drop-drop}
 use Rattle.wire.specs.Bytes.{part, splice, put_at}
 use Rattle.wire.proofs.PutAt.{put_fits, length-splice, splice-more}
-use Rattle.layout.specs.Layout.{fields, texts, resend, security_status, snapshot, index, volume_index, order, trade, streams}
+use Rattle.layout.specs.Layout.{fields, common_part, texts, resend, security_status, order, trade, streams}
 use Rattle.record.specs.Asked.{zeros, filled}
+
+-- what was gathered, as other texts that are the same
+pub found_as : {b t u : List ℕ} {n : ℕ} → (b ≡ filled t) × (n ≡ length t) → t ≡ u → (b ≡ filled u) × (n ≡ length u)
+found_as h e = (h.0 ∙ ap filled e, h.1 ∙ ap (length {A = ℕ}) e)
 
 module _ (s : List ℕ) where
   two : (a b at : ℕ) → take (a + b) (drop at s) ≡ take a (drop at s) ++ take b (drop (at + a) s)
@@ -39,17 +43,9 @@ module _ (s : List ℕ) where
   unfolding texts
   status-texts = rw (three 8 4 8 10) (simp append_assoc)
 
-  pub snapshot-texts : part 10 33 s ++ part 0 0 s ≡ texts (fields snapshot) s 0
+  pub common-texts : part 10 33 s ++ part 0 0 s ≡ texts common_part s 0
   unfolding texts
-  snapshot-texts = rw (four 3 8 4 8 10) (simp append_assoc)
-
-  pub index-texts : part 10 33 s ++ part 0 0 s ≡ texts (fields index) s 0
-  unfolding texts
-  index-texts = rw (four 3 8 4 8 10) (simp append_assoc)
-
-  pub volume_texts : part 10 33 s ++ part 0 0 s ≡ texts (fields volume_index) s 0
-  unfolding texts
-  volume_texts = rw (four 3 8 4 8 10) (simp append_assoc)
+  common-texts = rw (four 3 8 4 8 10) (simp append_assoc)
 
   pub stream-texts : (at : ℕ) → part at (at + 3) s ++ part (at + 7) (at + 7 + 8) s ≡ texts streams.fields s at
   unfolding texts

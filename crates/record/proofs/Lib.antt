@@ -1,4 +1,5 @@
 pub mod Choice
+pub mod Counted
 pub mod Gathered
 pub mod Grouped
 pub mod Had

@@ -7,6 +7,7 @@ use mathlib.Core.List.{List, [], ◌∷◌}
 use lib.Dec.{eqb}
 use lib.IntN.{ℤ, pos, nat_abs}
 use lib.ListN.{get_or}
+use Rattle.std.specs.Prelude.{Option, Some, None, Ok, Err}
 use Rattle.wire.specs.Answer.{Answer, accepted, refused}
 use Rattle.wire.specs.Refusal.{too_short, too_long, wrong_sum}
 use Rattle.frame.specs.Framing.{missing_by}
@@ -16,7 +17,7 @@ use Rattle.layout.specs.declared.group.Refusal.TheVariants.{NotItsLayout, OutOfR
 use Rattle.layout.proofs.Unique.{code_refusal, back_refusal}
 use Rattle.record.specs.Asked.{WithTexts, Asked, found, no_such_entry}
 use Rattle.record.specs.Record as record_of
-use Rattle.record.specs.Paper.{means_record, means_answer, means_reading, means_frame_answer, means_frame_reading, means_group_answer, means_group_reading}
+use Rattle.record.specs.Paper.{Reading, means_record, means_reading, FrameReading, means_frame_reading, GroupReading, means_group_reading}
 use Rattle.record.specs.declared.Record.{Record}
 use Rattle.record.specs.declared.Record.TheVariants.{Heartbeat, ChannelHeartbeat, Resend, Statistics, SecurityStatus, Snapshot, Index, VolumeIndex, Order, Trade, Unknown}
 use Rattle.record.specs.declared.common.Common.{Common}
@@ -29,12 +30,11 @@ use Rattle.record.specs.declared.index.Index as code_index
 use Rattle.record.specs.declared.volume_index.VolumeIndex as code_volume_index
 use Rattle.record.specs.declared.statistics.Statistics as code_statistics
 use Rattle.record.specs.declared.security_status.SecurityStatus as code_security_status
-use Rattle.record.specs.declared.Answer as code_answer
-use Rattle.record.specs.declared.Reading as code_reading
-use Rattle.record.specs.declared.framed.FrameAnswer as frame_answer
-use Rattle.record.specs.declared.framed.FrameReading as frame_reading
-use Rattle.record.specs.declared.group.GroupAnswer as code_group
+use Rattle.record.specs.declared.framed.FrameRefusal.{FrameRefusal}
+use Rattle.record.specs.declared.framed.FrameRefusal.TheVariants.{Frame, Body}
+use Rattle.record.specs.declared.group.Group as code_group
 use Rattle.record.specs.declared.group.GroupReading as group_reading
+use Rattle.record.specs.declared.texts.Texts.{Texts}
 
 -- value i, with its sign and without
 z : List ℤ → ℕ → ℤ
@@ -146,68 +146,75 @@ one-security-status a b e = cc (one_record (SecurityStatus a) (SecurityStatus b)
 
 -- ---- a body
 
-code_answer_of : Answer record_of.Reading → code_answer.Answer
-code_answer_of (accepted r) = code_answer.TheVariants.Read (code_record r)
-code_answer_of (refused x vs) = code_answer.TheVariants.Refused (code_refusal x)
+code_read : Answer record_of.Reading → WithTexts record_of.Reading → Reading
+code_read (accepted r) a = Ok (record { «record» = code_record r; texts = record { bytes = a.texts; length = a.used } })
+code_read (refused x vs) a = Err (code_refusal x)
 
-back_answer : (a : code_answer.Answer) → code_answer_of (means_answer a) ≡ a
-unfolding code_answer_of
-back_answer (code_answer.TheVariants.Read r) = ap code_answer.TheVariants.Read (back_record r)
-back_answer (code_answer.TheVariants.Refused x) = ap code_answer.TheVariants.Refused (back_refusal x)
+code_reading_of : WithTexts record_of.Reading → Reading
+code_reading_of a = code_read a.answer a
 
-pub one_reading : (a b : code_reading.Reading) → means_reading a ≡ means_reading b → a ≡ b
-one_reading a b e =
-    let p = sym (back_answer a.answer) ∙ ap (λ (t : WithTexts record_of.Reading). code_answer_of t.answer) e ∙ back_answer b.answer in
-    λ i. record { answer = p i; texts = record { bytes = (e i).texts; length = (e i).used } }
+back_reading : (a : Reading) → code_reading_of (means_reading a) ≡ a
+unfolding code_reading_of code_read
+back_reading (Ok r) = λ i. Ok (record { «record» = back_record r.record i; texts = r.texts })
+back_reading (Err x) = ap Err (back_refusal x)
+
+pub one_reading : (a b : Reading) → means_reading a ≡ means_reading b → a ≡ b
+one_reading a b e = sym (back_reading a) ∙ ap code_reading_of e ∙ back_reading b
 
 -- ---- a frame
 
-code_frame_refusal : ℕ → List ℕ → frame_answer.FrameAnswer
+code_frame_refusal : ℕ → List ℕ → FrameRefusal
 code_frame_refusal x vs =
-    cond (eqb x too_short) (frame_answer.TheVariants.Frame (frame-refusal.TheVariants.TooShort (missing_by vs)))
-    (cond (eqb x too_long) (frame_answer.TheVariants.Frame frame-refusal.TheVariants.TooLong)
-    (cond (eqb x wrong_sum) (frame_answer.TheVariants.Frame frame-refusal.TheVariants.WrongSum)
-    (frame_answer.TheVariants.Body (code_refusal x))))
+    cond (eqb x too_short) (Frame (frame-refusal.TheVariants.TooShort (missing_by vs)))
+    (cond (eqb x too_long) (Frame frame-refusal.TheVariants.TooLong)
+    (cond (eqb x wrong_sum) (Frame frame-refusal.TheVariants.WrongSum) (Body (code_refusal x))))
 
-code_frame_of : Answer record_of.Reading → frame_answer.FrameAnswer
-code_frame_of (accepted r) = frame_answer.TheVariants.Read (code_record r)
-code_frame_of (refused x vs) = code_frame_refusal x vs
+code_frame : Answer record_of.Reading → WithTexts record_of.Reading → FrameReading
+code_frame (accepted r) a = Ok (record { «record» = code_record r; texts = record { bytes = a.texts; length = a.used } })
+code_frame (refused x vs) a = Err (code_frame_refusal x vs)
 
-back_frame : (a : frame_answer.FrameAnswer) → code_frame_of (means_frame_answer a) ≡ a
-unfolding code_frame_of code_frame_refusal
-back_frame (frame_answer.TheVariants.Read r) = ap frame_answer.TheVariants.Read (back_record r)
-back_frame (frame_answer.TheVariants.Frame (frame-refusal.TheVariants.TooShort n)) = refl
-back_frame (frame_answer.TheVariants.Frame frame-refusal.TheVariants.TooLong) = refl
-back_frame (frame_answer.TheVariants.Frame frame-refusal.TheVariants.WrongSum) = refl
-back_frame (frame_answer.TheVariants.Body NotItsLayout) = refl
-back_frame (frame_answer.TheVariants.Body OutOfRange) = refl
+code_frame_of : WithTexts record_of.Reading → FrameReading
+code_frame_of a = code_frame a.answer a
 
-pub one_frame_reading : (a b : frame_reading.FrameReading) → means_frame_reading a ≡ means_frame_reading b → a ≡ b
-one_frame_reading a b e =
-    let p = sym (back_frame a.answer) ∙ ap (λ (t : WithTexts record_of.Reading). code_frame_of t.answer) e ∙ back_frame b.answer in
-    λ i. record { answer = p i; texts = record { bytes = (e i).texts; length = (e i).used } }
+back_frame : (a : FrameReading) → code_frame_of (means_frame_reading a) ≡ a
+unfolding code_frame_of code_frame code_frame_refusal
+back_frame (Ok r) = λ i. Ok (record { «record» = back_record r.record i; texts = r.texts })
+back_frame (Err (Frame (frame-refusal.TheVariants.TooShort n))) = refl
+back_frame (Err (Frame frame-refusal.TheVariants.TooLong)) = refl
+back_frame (Err (Frame frame-refusal.TheVariants.WrongSum)) = refl
+back_frame (Err (Body NotItsLayout)) = refl
+back_frame (Err (Body OutOfRange)) = refl
+
+pub one_frame_reading : (a b : FrameReading) → means_frame_reading a ≡ means_frame_reading b → a ≡ b
+one_frame_reading a b e = sym (back_frame a) ∙ ap code_frame_of e ∙ back_frame b
 
 -- ---- a group
 
-code_group_values : List ℤ → code_group.GroupAnswer
-code_group_values [] = code_group.TheVariants.NoSuchEntry
-code_group_values (x ∷ []) = code_group.TheVariants.Stream (record { stock_number = nat_abs x })
-code_group_values (x ∷ (y ∷ vs)) =
-    code_group.TheVariants.Switch (record { switch_type = nat_abs x; yes_no = nat_abs y })
+code_group_read : List ℤ → WithTexts (Asked (List ℤ)) → Option group_reading.GroupReading
+code_group_read [] a = None
+code_group_read (x ∷ []) a =
+    Some (record { group = code_group.TheVariants.Stream (record { stock_number = nat_abs x }); texts = record { bytes = a.texts; length = a.used } })
+code_group_read (x ∷ (y ∷ vs)) a =
+    Some (record { group = code_group.TheVariants.Switch (record { switch_type = nat_abs x; yes_no = nat_abs y }); texts = record { bytes = a.texts; length = a.used } })
 
-code_group_of : Answer (Asked (List ℤ)) → code_group.GroupAnswer
-code_group_of (accepted (found vs)) = code_group_values vs
-code_group_of (accepted no_such_entry) = code_group.TheVariants.NoSuchEntry
-code_group_of (refused x vs) = code_group.TheVariants.Refused (code_refusal x)
+code_group_answer : Answer (Asked (List ℤ)) → WithTexts (Asked (List ℤ)) → GroupReading
+code_group_answer (accepted (found vs)) a = Ok (code_group_read vs a)
+code_group_answer (accepted no_such_entry) a = Ok None
+code_group_answer (refused x vs) a = Err (code_refusal x)
 
-back_group : (a : code_group.GroupAnswer) → code_group_of (means_group_answer a) ≡ a
-unfolding code_group_of code_group_values
-back_group (code_group.TheVariants.Stream r) = refl
-back_group (code_group.TheVariants.Switch r) = refl
-back_group code_group.TheVariants.NoSuchEntry = refl
-back_group (code_group.TheVariants.Refused x) = ap code_group.TheVariants.Refused (back_refusal x)
+code_group_of : WithTexts (Asked (List ℤ)) → GroupReading
+code_group_of a = code_group_answer a.answer a
 
-pub one_group_reading : (a b : group_reading.GroupReading) → means_group_reading a ≡ means_group_reading b → a ≡ b
-one_group_reading a b e =
-    let p = sym (back_group a.answer) ∙ ap (λ (t : WithTexts (Asked (List ℤ))). code_group_of t.answer) e ∙ back_group b.answer in
-    λ i. record { answer = p i; texts = record { bytes = (e i).texts; length = (e i).used } }
+back_some : (g : code_group.Group) (t : Texts) → code_group_of (means_group_reading (Ok (Some (record { group = g; texts = t })))) ≡ Ok (Some (record { group = g; texts = t }))
+unfolding code_group_of code_group_answer code_group_read
+back_some (code_group.TheVariants.Stream r) t = refl
+back_some (code_group.TheVariants.Switch r) t = refl
+
+back_group : (a : GroupReading) → code_group_of (means_group_reading a) ≡ a
+unfolding code_group_of code_group_answer
+back_group (Ok (Some r)) = back_some r.group r.texts
+back_group (Ok None) = refl
+back_group (Err x) = ap Err (back_refusal x)
+
+pub one_group_reading : (a b : GroupReading) → means_group_reading a ≡ means_group_reading b → a ≡ b
+one_group_reading a b e = sym (back_group a) ∙ ap code_group_of e ∙ back_group b

@@ -1,17 +1,15 @@
 // 390095, channel heartbeat.
-ghost use Rattle.std.specs.Prelude.{◌≡◌, length};
-ghost use Rattle.layout.specs.Layout.{fields, ranges, texts};
+ghost use Rattle.std.specs.Prelude.{refl};
 ghost use Rattle.layout.specs.Layout as of;
-ghost use Rattle.layout.specs.Group.{judge_body};
-ghost use Rattle.layout.specs.Paper as layout_paper;
-ghost use Rattle.record.specs.Asked.{filled};
-ghost use Rattle.record.specs.Paper.{means_reading, means_record};
-ghost use Rattle.record.specs.Record.{numbers_as, had, read_as};
+ghost use Rattle.layout.specs.Layout.{type_number, size};
+ghost use Rattle.layout.specs.declared.channel_heartbeat.TheConstants as constants;
 ghost use Rattle.record.specs.declared.Record.TheVariants as is;
 
+use crate::Record;
+use crate::body::Listed;
 use crate::texts::{Texts, no_texts};
-use crate::{Answer, Reading, Record, refused};
-use layout::{Refusal, Verdict, channel_heartbeat, natural_in_range, yes_no_in_range};
+use layout::{Groups, channel_heartbeat, natural_in_range, yes_no_in_range};
+use wire::Number;
 
 #[repr(C)]
 #[derive(Clone, Copy)]
@@ -21,57 +19,45 @@ pub struct ChannelHeartbeat {
     pub end: u16,
 }
 
-// Whether its fields are in range.
-fn in_range(body: &[u8]) -> bool
-    ensures { result ≡ ranges (fields of.channel_heartbeat) body.now 0 }
-{
-    natural_in_range(wire::be8(body, channel_heartbeat::LAST_NUMBER))
-        & yes_no_in_range(wire::be2(body, channel_heartbeat::END))
-}
+impl Listed for ChannelHeartbeat {
+    ghost layout = { of.channel_heartbeat };
 
-// 4 where the body lacks bytes, else 5 where a field is out of range.
-pub fn judge_channel_heartbeat(body: &[u8]) -> Verdict
-    ensures { layout_paper.means_verdict result ≡ judge_body of.channel_heartbeat body.now }
-{
-    if body.len() < channel_heartbeat::SIZE {
-        return Verdict::Refused(Refusal::NotItsLayout);
-    }
-    Verdict::Accepted.also(in_range(body))
-}
+    ghost variant = { is.ChannelHeartbeat };
 
-// The numbers of a channel heartbeat that some bytes have; all 0 where they lack some of its fields.
-pub fn channel_heartbeat_of(body: &[u8]) -> ChannelHeartbeat
-    ensures { means_record (is.ChannelHeartbeat result) ≡ numbers_as of.channel_heartbeat (had of.channel_heartbeat body.now) }
-{
-    if body.len() < channel_heartbeat::SIZE {
-        return ChannelHeartbeat {
-            channel: 0,
-            last_number: 0,
-            end: 0,
-        };
-    }
-    ChannelHeartbeat {
-        channel: wire::be2(body, channel_heartbeat::CHANNEL),
-        last_number: wire::i64_at(body, channel_heartbeat::LAST_NUMBER),
-        end: wire::be2(body, channel_heartbeat::END),
-    }
-}
+    ghost KIND = { type_number of.channel_heartbeat };
 
-// It has no texts.
-pub fn channel_heartbeat_texts(body: &[u8]) -> Texts
-    ensures { (result.bytes ≡ filled (texts (fields of.channel_heartbeat) (had of.channel_heartbeat body.now) 0)) × (result.length ≡ length (texts (fields of.channel_heartbeat) (had of.channel_heartbeat body.now) 0)) }
-{
-    no_texts()
-}
+    const KIND: u32 = Record::CHANNEL_HEARTBEAT;
 
-pub(crate) fn read(body: &[u8]) -> Reading
-    ensures { means_reading result ≡ read_as of.channel_heartbeat body.now }
-{
-    match judge_channel_heartbeat(body) {
-        Verdict::Accepted => Reading {
-            answer: Answer::Read(Record::ChannelHeartbeat(channel_heartbeat_of(body))),
-            texts: channel_heartbeat_texts(body),
-        },
-        Verdict::Refused(x) => refused(x),
+    ghost SIZE = { constants.SIZE };
+
+    const SIZE: usize = channel_heartbeat::SIZE;
+
+    fn groups() -> Option<Groups> {
+        None
     }
+
+    fn in_range(body: &[u8]) -> bool {
+        natural_in_range(u64::at(body, channel_heartbeat::LAST_NUMBER))
+            & yes_no_in_range(u16::at(body, channel_heartbeat::END))
+    }
+
+    fn fields(body: &[u8]) -> ChannelHeartbeat {
+        ChannelHeartbeat {
+            channel: u16::at(body, channel_heartbeat::CHANNEL),
+            last_number: i64::at(body, channel_heartbeat::LAST_NUMBER),
+            end: u16::at(body, channel_heartbeat::END),
+        }
+    }
+
+    fn gathered(body: &[u8]) -> Texts {
+        no_texts()
+    }
+
+    fn as_record(self) -> Record {
+        Record::ChannelHeartbeat(self)
+    }
+
+    ghost kind_is = { refl };
+
+    ghost size_is = { unfold size in refl };
 }

@@ -1,26 +1,52 @@
 // 3, heartbeat: no fields; a body is all tail.
-ghost use Rattle.std.specs.Prelude.{◌≡◌};
+ghost use Rattle.std.specs.Prelude.{refl};
 ghost use Rattle.layout.specs.Layout as of;
-ghost use Rattle.layout.specs.Group.{judge_body};
-ghost use Rattle.layout.specs.Paper as layout_paper;
-ghost use Rattle.record.specs.Paper.{means_reading};
-ghost use Rattle.record.specs.Record.{read_as};
+ghost use Rattle.layout.specs.Layout.{type_number, size};
+ghost use Rattle.layout.specs.declared.heartbeat.TheConstants as constants;
+ghost use Rattle.record.specs.declared.Record.TheVariants as is;
 
-use crate::texts::no_texts;
-use crate::{Answer, Reading, Record};
-use layout::Verdict;
+use crate::Record;
+use crate::body::Listed;
+use crate::texts::{Texts, no_texts};
+use layout::{Groups, heartbeat};
 
-pub fn judge_heartbeat(body: &[u8]) -> Verdict
-    ensures { layout_paper.means_verdict result ≡ judge_body of.heartbeat body.now }
-{
-    Verdict::Accepted
-}
+#[derive(Clone, Copy)]
+pub struct Heartbeat;
 
-pub(crate) fn read(body: &[u8]) -> Reading
-    ensures { means_reading result ≡ read_as of.heartbeat body.now }
-{
-    Reading {
-        answer: Answer::Read(Record::Heartbeat),
-        texts: no_texts(),
+impl Listed for Heartbeat {
+    ghost layout = { of.heartbeat };
+
+    ghost variant = { λ _. is.Heartbeat };
+
+    ghost KIND = { type_number of.heartbeat };
+
+    const KIND: u32 = Record::HEARTBEAT;
+
+    ghost SIZE = { constants.SIZE };
+
+    const SIZE: usize = heartbeat::SIZE;
+
+    fn groups() -> Option<Groups> {
+        None
     }
+
+    fn in_range(body: &[u8]) -> bool {
+        true
+    }
+
+    fn fields(body: &[u8]) -> Heartbeat {
+        Heartbeat
+    }
+
+    fn gathered(body: &[u8]) -> Texts {
+        no_texts()
+    }
+
+    fn as_record(self) -> Record {
+        Record::Heartbeat
+    }
+
+    ghost kind_is = { refl };
+
+    ghost size_is = { unfold size in refl };
 }

@@ -1,19 +1,18 @@
 // 309011, index; its texts are stream, security, source and phase.
-ghost use Rattle.std.specs.Prelude.{◌≡◌, length};
-ghost use Rattle.layout.specs.Layout.{fields, texts};
+ghost use Rattle.std.specs.Prelude.{refl};
 ghost use Rattle.layout.specs.Layout as of;
-ghost use Rattle.layout.specs.Group.{judge_body};
-ghost use Rattle.layout.specs.Paper as layout_paper;
-ghost use Rattle.record.specs.Asked.{filled};
-ghost use Rattle.record.specs.Paper.{means_reading, means_record};
-ghost use Rattle.record.specs.Record.{numbers_as, had, read_as};
+ghost use Rattle.layout.specs.Layout.{type_number, size};
+ghost use Rattle.layout.specs.declared.index.TheConstants as constants;
 ghost use Rattle.record.specs.declared.Record.TheVariants as is;
 
-use crate::common::{Common, common_in, common_of, no_common};
-use crate::texts::{Texts, gather, no_texts};
-use crate::{Answer, Reading, Record, refused};
-use layout::{Groups, Refusal, Verdict, common, index};
+use crate::Record;
+use crate::body::Listed;
+use crate::common::Common;
+use crate::texts::Texts;
+use layout::{Groups, index};
+use wire::Number;
 
+// A struct of its own: the C interface has three, and what they share is Common.
 #[repr(C)]
 #[derive(Clone, Copy)]
 pub struct Index {
@@ -21,56 +20,43 @@ pub struct Index {
     pub count: u32,
 }
 
-// 4 where the body lacks bytes, else 5 where a field is out of range.
-pub fn judge_index(body: &[u8]) -> Verdict
-    ensures { layout_paper.means_verdict result ≡ judge_body of.index body.now }
-{
-    if body.len() < index::SIZE {
-        return Verdict::Refused(Refusal::NotItsLayout);
-    }
-    layout::judge(
-        Groups::IndexEntries,
-        body,
-        index::SIZE,
-        wire::be4(body, index::COUNT),
-    )
-    .also(common_in(body))
-}
+impl Listed for Index {
+    ghost layout = { of.index };
 
-// The numbers of an index that some bytes have; all 0 where they lack some of its fields.
-pub fn index_of(body: &[u8]) -> Index
-    ensures { means_record (is.Index result) ≡ numbers_as of.index (had of.index body.now) }
-{
-    if body.len() < index::SIZE {
-        return Index {
-            common: no_common(),
-            count: 0,
-        };
-    }
-    Index {
-        common: common_of(body),
-        count: wire::be4(body, index::COUNT),
-    }
-}
+    ghost variant = { is.Index };
 
-// The texts of an index that some bytes have; none where they lack some of its fields.
-pub fn index_texts(body: &[u8]) -> Texts
-    ensures { (result.bytes ≡ filled (texts (fields of.index) (had of.index body.now) 0)) × (result.length ≡ length (texts (fields of.index) (had of.index body.now) 0)) }
-{
-    if body.len() < index::SIZE {
-        return no_texts();
-    }
-    gather(body, common::STREAM, index::TEXTS_SIZE, 0, 0)
-}
+    ghost KIND = { type_number of.index };
 
-pub(crate) fn read(body: &[u8]) -> Reading
-    ensures { means_reading result ≡ read_as of.index body.now }
-{
-    match judge_index(body) {
-        Verdict::Accepted => Reading {
-            answer: Answer::Read(Record::Index(index_of(body))),
-            texts: index_texts(body),
-        },
-        Verdict::Refused(x) => refused(x),
+    const KIND: u32 = Record::INDEX;
+
+    ghost SIZE = { constants.SIZE };
+
+    const SIZE: usize = index::SIZE;
+
+    fn groups() -> Option<Groups> {
+        Some(Groups::IndexEntries)
     }
+
+    fn in_range(body: &[u8]) -> bool {
+        Common::in_range(body)
+    }
+
+    fn fields(body: &[u8]) -> Index {
+        Index {
+            common: Common::fields(body),
+            count: u32::at(body, index::COUNT),
+        }
+    }
+
+    fn gathered(body: &[u8]) -> Texts {
+        Common::gathered(body)
+    }
+
+    fn as_record(self) -> Record {
+        Record::Index(self)
+    }
+
+    ghost kind_is = { refl };
+
+    ghost size_is = { unfold size in refl };
 }

@@ -1,21 +1,21 @@
 // Typed records of the ten listed types: a frame's type and body in, a record out, or refusal 4 or 5.
 #![tactic(auto)]
 
-ghost use Rattle.std.specs.Prelude.{◌≡◌, []};
-ghost use Rattle.wire.specs.Answer.{accepted, refused};
+ghost use Rattle.std.specs.Prelude.{◌≡◌};
 ghost use Rattle.layout.specs.Layout.{named};
 ghost use Rattle.layout.specs.Paper as layout_paper;
-ghost use Rattle.record.specs.Asked.{with_texts, judge};
-ghost use Rattle.record.specs.Record as told_of;
+ghost use Rattle.record.specs.Asked.{judge};
 ghost use Rattle.record.specs.Record.{read_body, is_listed};
 ghost use Rattle.record.specs.Paper.{means_reading};
 
+mod body;
 mod channel_heartbeat;
 mod common;
 mod framed;
 mod group;
 mod heartbeat;
 mod index;
+mod kind;
 mod order;
 mod resend;
 mod security_status;
@@ -25,27 +25,24 @@ mod texts;
 mod trade;
 mod volume_index;
 
-pub use channel_heartbeat::{
-    ChannelHeartbeat, channel_heartbeat_of, channel_heartbeat_texts, judge_channel_heartbeat,
-};
+pub use body::Listed;
+pub use channel_heartbeat::ChannelHeartbeat;
 pub use common::Common;
-pub use framed::{FrameAnswer, FrameReading, read_frame};
-pub use group::{GroupAnswer, GroupReading, group_of, groups_of};
-pub use heartbeat::judge_heartbeat;
-pub use index::{Index, index_of, index_texts, judge_index};
+pub use framed::{FrameRefusal, read_frame};
+pub use group::{Group, GroupReading, group_of, groups_of};
+pub use heartbeat::Heartbeat;
+pub use index::Index;
+pub use kind::{Kind, Unlisted};
 pub use layout::Refusal;
-use layout::Verdict;
-pub use order::{Order, judge_order, order_of, order_texts};
-pub use resend::{Resend, judge_resend, resend_of, resend_texts};
-pub use security_status::{
-    SecurityStatus, Switch, judge_security_status, security_status_of, security_status_texts,
-};
-pub use snapshot::{Snapshot, judge_snapshot, snapshot_of, snapshot_texts};
-pub use statistics::{Statistics, Stream, judge_statistics, statistics_of, statistics_texts};
+pub use order::Order;
+pub use resend::Resend;
+pub use security_status::{SecurityStatus, Switch};
+pub use snapshot::Snapshot;
+pub use statistics::{Statistics, Stream};
 pub use texts::Texts;
 use texts::no_texts;
-pub use trade::{Trade, judge_trade, trade_of, trade_texts};
-pub use volume_index::{VolumeIndex, judge_volume_index, volume_index_of, volume_index_texts};
+pub use trade::Trade;
+pub use volume_index::VolumeIndex;
 
 #[derive(Clone, Copy)]
 pub enum Record {
@@ -64,111 +61,80 @@ pub enum Record {
 
 // The type numbers of the listed types.
 impl Record {
-    pub const HEARTBEAT: u32 = 3;
+    pub const HEARTBEAT: u32 = Kind::Heartbeat as u32;
 
-    pub const CHANNEL_HEARTBEAT: u32 = 390095;
+    pub const CHANNEL_HEARTBEAT: u32 = Kind::ChannelHeartbeat as u32;
 
-    pub const RESEND: u32 = 390094;
+    pub const RESEND: u32 = Kind::Resend as u32;
 
-    pub const STATISTICS: u32 = 390090;
+    pub const STATISTICS: u32 = Kind::Statistics as u32;
 
-    pub const SECURITY_STATUS: u32 = 390013;
+    pub const SECURITY_STATUS: u32 = Kind::SecurityStatus as u32;
 
-    pub const SNAPSHOT: u32 = 300111;
+    pub const SNAPSHOT: u32 = Kind::Snapshot as u32;
 
-    pub const INDEX: u32 = 309011;
+    pub const INDEX: u32 = Kind::Index as u32;
 
-    pub const VOLUME_INDEX: u32 = 309111;
+    pub const VOLUME_INDEX: u32 = Kind::VolumeIndex as u32;
 
-    pub const ORDER: u32 = 300192;
+    pub const ORDER: u32 = Kind::Order as u32;
 
-    pub const TRADE: u32 = 300191;
+    pub const TRADE: u32 = Kind::Trade as u32;
 }
 
-#[derive(Clone, Copy)]
-pub enum Answer {
-    Read(Record),
-    Refused(Refusal),
-}
-
-// What a body reads as, with its texts; a refusal has none.
+// What a body reads as: the record, with its texts.
 #[derive(Clone, Copy)]
 pub struct Reading {
-    pub answer: Answer,
+    pub record: Record,
     pub texts: Texts,
-}
-
-pub(crate) fn refused(x: Refusal) -> Reading
-    ensures { means_reading result ≡ with_texts (refused (layout_paper.body_refusal x) []) [] }
-{
-    Reading {
-        answer: Answer::Refused(x),
-        texts: no_texts(),
-    }
-}
-
-fn unknown(kind: u32) -> Reading
-    ensures { means_reading result ≡ with_texts (accepted (told_of.unknown kind)) [] }
-{
-    Reading {
-        answer: Answer::Read(Record::Unknown(kind)),
-        texts: no_texts(),
-    }
 }
 
 // Whether a type is one of the ten.
 pub fn listed(kind: u32) -> bool
     ensures { result ≡ is_listed (named kind) }
 {
-    match kind {
-        Record::HEARTBEAT => true,
-        Record::CHANNEL_HEARTBEAT => true,
-        Record::RESEND => true,
-        Record::STATISTICS => true,
-        Record::SECURITY_STATUS => true,
-        Record::SNAPSHOT => true,
-        Record::INDEX => true,
-        Record::VOLUME_INDEX => true,
-        Record::ORDER => true,
-        Record::TRADE => true,
-        _ => false,
-    }
+    Kind::try_from(kind).is_ok()
 }
 
+// Three matches over the ten, here, in `read` and in `groups_of`: each arm is of another type, and a macro that writes them is no plainer.
+
 // How a body of a type is judged: 4 where it lacks bytes of its layout, else 5 where a field is out of range. An unlisted type is accepted.
-pub fn judge(kind: u32, body: &[u8]) -> Verdict
+pub fn judge(kind: u32, body: &[u8]) -> Result<(), Refusal>
     ensures { layout_paper.means_verdict result ≡ judge kind body.now }
 {
-    match kind {
-        Record::HEARTBEAT => judge_heartbeat(body),
-        Record::CHANNEL_HEARTBEAT => judge_channel_heartbeat(body),
-        Record::RESEND => judge_resend(body),
-        Record::STATISTICS => judge_statistics(body),
-        Record::SECURITY_STATUS => judge_security_status(body),
-        Record::SNAPSHOT => judge_snapshot(body),
-        Record::INDEX => judge_index(body),
-        Record::VOLUME_INDEX => judge_volume_index(body),
-        Record::ORDER => judge_order(body),
-        Record::TRADE => judge_trade(body),
-        _ => Verdict::Accepted,
+    match Kind::try_from(kind) {
+        Ok(Kind::Heartbeat) => Heartbeat::judge(body),
+        Ok(Kind::ChannelHeartbeat) => ChannelHeartbeat::judge(body),
+        Ok(Kind::Resend) => Resend::judge(body),
+        Ok(Kind::Statistics) => Statistics::judge(body),
+        Ok(Kind::SecurityStatus) => SecurityStatus::judge(body),
+        Ok(Kind::Snapshot) => Snapshot::judge(body),
+        Ok(Kind::Index) => Index::judge(body),
+        Ok(Kind::VolumeIndex) => VolumeIndex::judge(body),
+        Ok(Kind::Order) => Order::judge(body),
+        Ok(Kind::Trade) => Trade::judge(body),
+        Err(Unlisted) => Ok(()),
     }
 }
 
 // The record of a type and a body, with its texts; or refusal 4 or 5. An unlisted type is answered as unknown.
-pub fn read(kind: u32, body: &[u8]) -> Reading
+pub fn read(kind: u32, body: &[u8]) -> Result<Reading, Refusal>
     ensures { means_reading result ≡ read_body kind body.now }
 {
-    match kind {
-        Record::HEARTBEAT => heartbeat::read(body),
-        Record::CHANNEL_HEARTBEAT => channel_heartbeat::read(body),
-        Record::RESEND => resend::read(body),
-        Record::STATISTICS => statistics::read(body),
-        Record::SECURITY_STATUS => security_status::read(body),
-        Record::SNAPSHOT => snapshot::read(body),
-        Record::INDEX => index::read(body),
-        Record::VOLUME_INDEX => volume_index::read(body),
-        Record::ORDER => order::read(body),
-        Record::TRADE => trade::read(body),
-        _ => unknown(kind),
+    match Kind::try_from(kind) {
+        Ok(Kind::Heartbeat) => Heartbeat::read(body),
+        Ok(Kind::ChannelHeartbeat) => ChannelHeartbeat::read(body),
+        Ok(Kind::Resend) => Resend::read(body),
+        Ok(Kind::Statistics) => Statistics::read(body),
+        Ok(Kind::SecurityStatus) => SecurityStatus::read(body),
+        Ok(Kind::Snapshot) => Snapshot::read(body),
+        Ok(Kind::Index) => Index::read(body),
+        Ok(Kind::VolumeIndex) => VolumeIndex::read(body),
+        Ok(Kind::Order) => Order::read(body),
+        Ok(Kind::Trade) => Trade::read(body),
+        Err(Unlisted) => Ok(Reading {
+            record: Record::Unknown(kind),
+            texts: no_texts(),
+        }),
     }
 }

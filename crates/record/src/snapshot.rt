@@ -1,19 +1,18 @@
 // 300111, snapshot; its texts are stream, security, source and phase.
-ghost use Rattle.std.specs.Prelude.{◌≡◌, length};
-ghost use Rattle.layout.specs.Layout.{fields, texts};
+ghost use Rattle.std.specs.Prelude.{refl};
 ghost use Rattle.layout.specs.Layout as of;
-ghost use Rattle.layout.specs.Group.{judge_body};
-ghost use Rattle.layout.specs.Paper as layout_paper;
-ghost use Rattle.record.specs.Asked.{filled};
-ghost use Rattle.record.specs.Paper.{means_reading, means_record};
-ghost use Rattle.record.specs.Record.{numbers_as, had, read_as};
+ghost use Rattle.layout.specs.Layout.{type_number, size};
+ghost use Rattle.layout.specs.declared.snapshot.TheConstants as constants;
 ghost use Rattle.record.specs.declared.Record.TheVariants as is;
 
-use crate::common::{Common, common_in, common_of, no_common};
-use crate::texts::{Texts, gather, no_texts};
-use crate::{Answer, Reading, Record, refused};
-use layout::{Groups, Refusal, Verdict, common, snapshot};
+use crate::Record;
+use crate::body::Listed;
+use crate::common::Common;
+use crate::texts::Texts;
+use layout::{Groups, snapshot};
+use wire::Number;
 
+// A struct of its own: the C interface has three, and what they share is Common.
 #[repr(C)]
 #[derive(Clone, Copy)]
 pub struct Snapshot {
@@ -21,56 +20,43 @@ pub struct Snapshot {
     pub count: u32,
 }
 
-// 4 where the body lacks bytes, else 5 where a field is out of range.
-pub fn judge_snapshot(body: &[u8]) -> Verdict
-    ensures { layout_paper.means_verdict result ≡ judge_body of.snapshot body.now }
-{
-    if body.len() < snapshot::SIZE {
-        return Verdict::Refused(Refusal::NotItsLayout);
-    }
-    layout::judge(
-        Groups::SnapshotEntries,
-        body,
-        snapshot::SIZE,
-        wire::be4(body, snapshot::COUNT),
-    )
-    .also(common_in(body))
-}
+impl Listed for Snapshot {
+    ghost layout = { of.snapshot };
 
-// The numbers of a snapshot that some bytes have; all 0 where they lack some of its fields.
-pub fn snapshot_of(body: &[u8]) -> Snapshot
-    ensures { means_record (is.Snapshot result) ≡ numbers_as of.snapshot (had of.snapshot body.now) }
-{
-    if body.len() < snapshot::SIZE {
-        return Snapshot {
-            common: no_common(),
-            count: 0,
-        };
-    }
-    Snapshot {
-        common: common_of(body),
-        count: wire::be4(body, snapshot::COUNT),
-    }
-}
+    ghost variant = { is.Snapshot };
 
-// The texts of a snapshot that some bytes have; none where they lack some of its fields.
-pub fn snapshot_texts(body: &[u8]) -> Texts
-    ensures { (result.bytes ≡ filled (texts (fields of.snapshot) (had of.snapshot body.now) 0)) × (result.length ≡ length (texts (fields of.snapshot) (had of.snapshot body.now) 0)) }
-{
-    if body.len() < snapshot::SIZE {
-        return no_texts();
-    }
-    gather(body, common::STREAM, snapshot::TEXTS_SIZE, 0, 0)
-}
+    ghost KIND = { type_number of.snapshot };
 
-pub(crate) fn read(body: &[u8]) -> Reading
-    ensures { means_reading result ≡ read_as of.snapshot body.now }
-{
-    match judge_snapshot(body) {
-        Verdict::Accepted => Reading {
-            answer: Answer::Read(Record::Snapshot(snapshot_of(body))),
-            texts: snapshot_texts(body),
-        },
-        Verdict::Refused(x) => refused(x),
+    const KIND: u32 = Record::SNAPSHOT;
+
+    ghost SIZE = { constants.SIZE };
+
+    const SIZE: usize = snapshot::SIZE;
+
+    fn groups() -> Option<Groups> {
+        Some(Groups::SnapshotEntries)
     }
+
+    fn in_range(body: &[u8]) -> bool {
+        Common::in_range(body)
+    }
+
+    fn fields(body: &[u8]) -> Snapshot {
+        Snapshot {
+            common: Common::fields(body),
+            count: u32::at(body, snapshot::COUNT),
+        }
+    }
+
+    fn gathered(body: &[u8]) -> Texts {
+        Common::gathered(body)
+    }
+
+    fn as_record(self) -> Record {
+        Record::Snapshot(self)
+    }
+
+    ghost kind_is = { refl };
+
+    ghost size_is = { unfold size in refl };
 }

@@ -1,19 +1,17 @@
 // 390090, statistics.
-ghost use Rattle.std.specs.Prelude.{◌≡◌, length};
-ghost use Rattle.layout.specs.Layout.{fields, ranges, texts};
+ghost use Rattle.std.specs.Prelude.{refl};
 ghost use Rattle.layout.specs.Layout as of;
-ghost use Rattle.layout.specs.Group.{judge_body};
-ghost use Rattle.layout.specs.Paper as layout_paper;
-ghost use Rattle.record.specs.Asked.{filled};
-ghost use Rattle.record.specs.Paper.{means_reading, means_record, means_group_reading};
-ghost use Rattle.record.specs.Record.{group_as, numbers_as, had, read_as};
+ghost use Rattle.layout.specs.Layout.{type_number, size};
+ghost use Rattle.layout.specs.declared.statistics.TheConstants as constants;
+ghost use Rattle.layout.specs.declared.stream.TheConstants as group_constants;
 ghost use Rattle.record.specs.declared.Record.TheVariants as is;
-ghost use Rattle.wire.specs.Answer.{accepted};
 
-use crate::group::{GroupAnswer, GroupReading, no_group};
+use crate::Record;
+use crate::body::Listed;
+use crate::group::{Group, GroupReading, Grouped};
 use crate::texts::{Texts, gather, no_texts};
-use crate::{Answer, Reading, Record, refused};
-use layout::{Groups, Refusal, Verdict, statistics, stream, time_in_range, width};
+use layout::{Groups, statistics, stream, time_in_range, width};
+use wire::Number;
 
 #[repr(C)]
 #[derive(Clone, Copy)]
@@ -29,81 +27,67 @@ pub struct Stream {
     pub stock_number: u32,
 }
 
-// Whether its fields are in range.
-fn in_range(body: &[u8]) -> bool
-    ensures { result ≡ ranges (fields of.statistics) body.now 0 }
-{
-    time_in_range(wire::be8(body, statistics::TIME))
-}
+impl Listed for Statistics {
+    ghost layout = { of.statistics };
 
-// 4 where the body lacks bytes, else 5 where a field is out of range.
-pub fn judge_statistics(body: &[u8]) -> Verdict
-    ensures { layout_paper.means_verdict result ≡ judge_body of.statistics body.now }
-{
-    if body.len() < statistics::SIZE {
-        return Verdict::Refused(Refusal::NotItsLayout);
+    ghost variant = { is.Statistics };
+
+    ghost KIND = { type_number of.statistics };
+
+    const KIND: u32 = Record::STATISTICS;
+
+    ghost SIZE = { constants.SIZE };
+
+    const SIZE: usize = statistics::SIZE;
+
+    fn groups() -> Option<Groups> {
+        Some(Groups::Streams)
     }
-    layout::judge(
-        Groups::Streams,
-        body,
-        statistics::SIZE,
-        wire::be4(body, statistics::COUNT),
-    )
-    .also(in_range(body))
-}
 
-// The numbers of a statistics record that some bytes have; all 0 where they lack some of its fields.
-pub fn statistics_of(body: &[u8]) -> Statistics
-    ensures { means_record (is.Statistics result) ≡ numbers_as of.statistics (had of.statistics body.now) }
-{
-    if body.len() < statistics::SIZE {
-        return Statistics {
-            time: 0,
-            channel: 0,
-            count: 0,
-        };
+    fn in_range(body: &[u8]) -> bool {
+        time_in_range(u64::at(body, statistics::TIME))
     }
-    Statistics {
-        time: wire::i64_at(body, statistics::TIME),
-        channel: wire::be2(body, statistics::CHANNEL),
-        count: wire::be4(body, statistics::COUNT),
+
+    fn fields(body: &[u8]) -> Statistics {
+        Statistics {
+            time: i64::at(body, statistics::TIME),
+            channel: u16::at(body, statistics::CHANNEL),
+            count: u32::at(body, statistics::COUNT),
+        }
     }
-}
 
-// It has no texts.
-pub fn statistics_texts(body: &[u8]) -> Texts
-    ensures { (result.bytes ≡ filled (texts (fields of.statistics) (had of.statistics body.now) 0)) × (result.length ≡ length (texts (fields of.statistics) (had of.statistics body.now) 0)) }
-{
-    no_texts()
-}
-
-pub(crate) fn read(body: &[u8]) -> Reading
-    ensures { means_reading result ≡ read_as of.statistics body.now }
-{
-    match judge_statistics(body) {
-        Verdict::Accepted => Reading {
-            answer: Answer::Read(Record::Statistics(statistics_of(body))),
-            texts: statistics_texts(body),
-        },
-        Verdict::Refused(x) => refused(x),
+    fn gathered(body: &[u8]) -> Texts {
+        no_texts()
     }
+
+    fn as_record(self) -> Record {
+        Record::Statistics(self)
+    }
+
+    ghost kind_is = { refl };
+
+    ghost size_is = { unfold size in refl };
 }
 
-// Group i of a body that is accepted.
-pub(crate) fn stream_of(body: &[u8], i: u32) -> GroupReading
-    requires { judge_body of.statistics body.now ≡ accepted tt }
-    ensures { means_group_reading result ≡ group_as of.statistics body.now i }
-{
-    if i < wire::be4(body, statistics::COUNT) {
+impl Grouped for Statistics {
+    ghost each = { of.streams };
+
+    ghost stride = { group_constants.WIDTH };
+
+    fn group(body: &[u8], i: u32) -> GroupReading {
         let at = statistics::SIZE + stream::WIDTH * (i as usize);
         let stream = Stream {
-            stock_number: wire::be4(body, at + stream::STOCK_NUMBER),
+            stock_number: u32::at(body, at + stream::STOCK_NUMBER),
         };
         GroupReading {
-            answer: GroupAnswer::Stream(stream),
+            group: Group::Stream(stream),
             texts: gather(body, at, width::STREAM, at + stream::PHASE, width::PHASE),
         }
-    } else {
-        no_group()
     }
+
+    ghost each_is = { refl };
+
+    ghost stride_is = { unfold size in refl };
+
+    ghost flat_is = { refl };
 }

@@ -13,19 +13,17 @@ ghost use Rattle.rows.specs.Shift.{closed, opened};
 use gaps::Run;
 use seats::Seat;
 
-// Whether a run holds a number, and the place of that run: at an end, where it is left as from first to last; alone in it; or between others.
+// The place of the run that holds a number: at an end, where it is left as from first to last; alone in it; or between others.
 #[derive(Clone, Copy)]
 pub enum Held {
-    No,
     AtEnd(usize, u64, u64),
     Alone(usize),
     Inside(usize),
 }
 
-// Where new missing numbers go: the place in the row and the first number of the run there, or full.
+// Where new missing numbers go: the place in the row and the first number of the run there.
 #[derive(Clone, Copy)]
 pub struct Gap {
-    pub full: bool,
     pub at: usize,
     pub first: u64,
 }
@@ -38,87 +36,80 @@ fn there(at: usize, count: usize) -> bool
 }
 
 // Whether the run from a to e, at place p, holds n, which is not above e, and what is left of it where n is its end.
-fn left(p: usize, a: u64, e: u64, n: u64) -> Held
+fn left(p: usize, a: u64, e: u64, n: u64) -> Option<Held>
     ensures { result ≡ left_at p (run a e) n }
 {
     if n < a {
-        return Held::No;
+        return None;
     }
     if n == a {
         if n < e {
-            return Held::AtEnd(p, n + 1, e);
+            return Some(Held::AtEnd(p, n + 1, e));
         }
-        return Held::Alone(p);
+        return Some(Held::Alone(p));
     }
     if n == e {
-        return Held::AtEnd(p, a, n - 1);
+        return Some(Held::AtEnd(p, a, n - 1));
     }
-    Held::Inside(p)
+    Some(Held::Inside(p))
 }
 
 // Whether a run of the row holds n, by the first that does not end below n, and what is left of it where n is its end.
+// By hand over the places of two arrays, as C holds them: the run that is found is read from both.
+// No struct of its four places: only this and `room` take them, from fields that are lent to be written, and it would be built for each call.
 pub fn search<'a>(
     first: &'a [u64; Seat::PLACES],
     last: &'a [u64; Seat::PLACES],
     at: usize,
     count: usize,
     n: u64,
-) -> Held
+) -> Option<Held>
     ensures { result ≡ search first.now last.now at count n }
 {
     if there(at, count) {
         let b = at * Run::LIMIT;
-        let mut j: usize = 0;
-        while j < count {
+        for j in 0..count {
             if n <= last[b + j] {
                 return left(b + j, first[b + j], last[b + j], n);
             }
-            j += 1;
         }
     }
-    Held::No
+    None
 }
 
-// Where the numbers behind the highest go: the run that ends at the highest, or the next place.
+// Where the numbers behind the highest go: the run that ends at the highest, or the next place, if the row has one.
 pub fn room<'a>(
     first: &'a [u64; Seat::PLACES],
     last: &'a [u64; Seat::PLACES],
     at: usize,
     count: usize,
     highest: u64,
-) -> Gap
+) -> Option<Gap>
     ensures { result ≡ room first.now last.now at count highest }
 {
     if there(at, count) & (highest <= Seat::MOST) {
         if count == 0 {
-            return Gap {
-                full: false,
+            return Some(Gap {
                 at: 0,
                 first: highest + 1,
-            };
+            });
         }
         let j = count - 1;
         let p = at * Run::LIMIT + j;
         if last[p] == highest {
-            return Gap {
-                full: false,
+            return Some(Gap {
                 at: j,
                 first: first[p],
-            };
+            });
         }
         if count < Run::LIMIT {
-            return Gap {
-                full: false,
+            return Some(Gap {
                 at: count,
                 first: highest + 1,
-            };
+            });
         }
     }
-    Gap {
-        full: true,
-        at: 0,
-        first: 0,
-    }
+    None
 }
 
 // The numbers behind place p, up to place q, move one place down, and zero stands at q; nothing changes where these are no places.
@@ -126,12 +117,7 @@ pub fn close(all: &mut [u64; Seat::PLACES], p: usize, q: usize)
     ensures { all.new ≡ closed all.old p q }
 {
     if (p <= q) & (q < Seat::PLACES) {
-        let mut i = p;
-        while i < q {
-            let next = all[i + 1];
-            all[i] = next;
-            i += 1;
-        }
+        all.copy_within(p + 1..q + 1, p);
         all[q] = 0;
     }
 }
@@ -141,15 +127,8 @@ pub fn open(all: &mut [u64; Seat::PLACES], p: usize, q: usize, number: u64)
     ensures { all.new ≡ opened all.old p q number }
 {
     if (p <= q) & (q < Seat::PLACES) {
-        let mut carried = number;
-        let mut i = p;
-        while i < q {
-            let next = all[i];
-            all[i] = carried;
-            carried = next;
-            i += 1;
-        }
-        all[q] = carried;
+        all.copy_within(p..q, p + 1);
+        all[p] = number;
     }
 }
 
@@ -158,13 +137,7 @@ pub fn padded(numbers: &[u16]) -> [u16; Seat::COUNT]
     ensures { result ≡ padded channel_limit (take channel_limit numbers.now) }
 {
     let mut out = [0; Seat::COUNT];
-    let mut i: usize = 0;
-    while i < Seat::COUNT {
-        if numbers.len() <= i {
-            return out;
-        }
-        out[i] = numbers[i];
-        i += 1;
-    }
+    let n = numbers.len().min(Seat::COUNT);
+    out[..n].copy_from_slice(&numbers[..n]);
     out
 }

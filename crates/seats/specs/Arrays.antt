@@ -1,8 +1,10 @@
 -- A tracker's count of channels and its seven arrays, as one value; and what lent arrays hold when a call begins and when it ends.
 -- Assumes nothing.
-use Rattle.std.specs.Prelude.{ℕ, List}
+use Rattle.std.specs.Prelude.{ℕ, List, ◌≡◌}
 use Rattle.std.specs.Borrow.{Bor, MutBor}
 use denote.Triple.Both.{Both}
+use Rattle.seats.specs.declared.Fields.{Fields}
+use Rattle.seats.specs.declared.FieldsMut.{FieldsMut}
 
 -- each channel's number, first number, highest number, ended mark and count of runs, and the runs of all of them
 pub record Arrays : Type 0 where
@@ -68,3 +70,20 @@ at_exit count numbers from highest ended counts first last =
 abbrev pub at_end_mut : ℕ → (numbers from : Passed) (highest ended counts first last : PassedMut) → Arrays
 at_end_mut count numbers from highest ended counts first last =
     in_arrays_mut count numbers.exit from.exit highest.exit ended.exit counts.exit first.exit last.exit
+
+-- what a tracker's fields hold that are lent to be read
+abbrev pub held : Fields → Arrays
+held f = in_arrays f.count f.numbers f.from f.highest f.ended f.counts f.first f.last
+
+-- and what those hold of which all but the channels' numbers and first numbers are lent to be written
+abbrev pub held_mut : FieldsMut → Arrays
+held_mut f = in_arrays_mut f.count f.numbers f.from f.highest f.ended f.counts f.first f.last
+
+-- they are lent the same places
+abbrev pub SamePlaces : FieldsMut → FieldsMut → Type 0
+SamePlaces f g =
+    (g.highest.ghost_name ≡ f.highest.ghost_name)
+    × (g.ended.ghost_name ≡ f.ended.ghost_name)
+    × (g.counts.ghost_name ≡ f.counts.ghost_name)
+    × (g.first.ghost_name ≡ f.first.ghost_name)
+    × (g.last.ghost_name ≡ f.last.ghost_name)

@@ -1,186 +1,188 @@
 // A line for each record: the frame's offset, its name, and its fields in its layout's order.
-use crate::words::{Line, full};
-use crate::{field, table};
-use record::{Answer, Common, Order, Record, Resend, SecurityStatus, Trade};
+use crate::Showing;
+use crate::named::{Text, text_of};
+use crate::value::{Character, Decimal, Time, Trimmed};
+use layout::decimals::{AMOUNT, PRICE, QUANTITY};
+use record::{Common, Order, Reading, Record, Resend, SecurityStatus, Trade};
+use std::fmt::Write;
+use std::io;
 
-// At most three fields behind the offset.
-fn few(offset: i64, a: i64, b: i64, c: i64) -> [i64; Line::FIELDS] {
-    [offset, a, b, c, 0, 0, 0, 0, 0, 0, 0, 0]
-}
-
-fn order(offset: i64, r: Order) -> [i64; Line::FIELDS] {
-    [
-        offset,
-        r.channel as i64,
-        r.number,
-        field::STREAM,
-        field::SECURITY,
-        field::SOURCE,
-        r.order_price,
-        r.quantity,
-        r.side as i64,
-        r.time,
-        r.order_type as i64,
-        0,
-    ]
-}
-
-fn trade(offset: i64, r: Trade) -> [i64; Line::FIELDS] {
-    [
-        offset,
-        r.channel as i64,
-        r.number,
-        field::STREAM,
-        r.bid_number,
-        r.offer_number,
-        field::SECURITY,
-        field::SOURCE,
-        r.trade_price,
-        r.quantity,
-        r.execution as i64,
-        r.time,
-    ]
-}
-
-// The common part of snapshots and indices, and the field behind it.
-fn common(offset: i64, r: Common, last: u32) -> [i64; Line::FIELDS] {
-    [
-        offset,
-        r.time,
-        r.channel as i64,
-        field::STREAM,
-        field::SECURITY,
-        field::SOURCE,
-        field::PHASE,
-        r.previous_close,
-        r.trade_count,
-        r.volume,
-        r.amount,
-        last as i64,
-    ]
-}
-
-fn resend(offset: i64, r: Resend) -> [i64; Line::FIELDS] {
-    [
-        offset,
-        r.resend_type as i64,
-        r.channel as i64,
-        r.first_number,
-        r.last_number,
-        field::NEWS_ID,
-        r.status as i64,
-        field::REJECT_TEXT,
-        0,
-        0,
-        0,
-        0,
-    ]
-}
-
-fn security_status(offset: i64, r: SecurityStatus) -> [i64; Line::FIELDS] {
-    [
-        offset,
-        r.time,
-        r.channel as i64,
-        field::SECURITY,
-        field::SOURCE,
-        field::FINANCIAL_STATUS,
-        r.count as i64,
-        0,
-        0,
-        0,
-        0,
-        0,
-    ]
-}
-
-// The fields of a record that was read from a body of len bytes, behind its offset.
-fn fields(offset: i64, r: Record, len: i64) -> [i64; Line::FIELDS] {
-    match r {
-        Record::Heartbeat => few(offset, 0, 0, 0),
-        Record::ChannelHeartbeat(x) => few(offset, x.channel as i64, x.last_number, x.end as i64),
-        Record::Resend(x) => resend(offset, x),
-        Record::Statistics(x) => few(offset, x.time, x.channel as i64, x.count as i64),
-        Record::SecurityStatus(x) => security_status(offset, x),
-        Record::Snapshot(x) => common(offset, x.common, x.count),
-        Record::Index(x) => common(offset, x.common, x.count),
-        Record::VolumeIndex(x) => common(offset, x.common, x.stock_number),
-        Record::Order(x) => order(offset, x),
-        Record::Trade(x) => trade(offset, x),
-        Record::Unknown(kind) => few(offset, kind as i64, len, 0),
-    }
-}
-
-// The lines of the table for a type: read, and refused.
-fn number(kind: u32) -> u64 {
+// The name of a listed type that can be refused, by its number, as each line below takes a type: it is a frame's, listed or not.
+fn name(kind: u32) -> &'static str {
     match kind {
-        Record::ORDER => table::ORDER,
-        Record::TRADE => table::TRADE,
-        Record::SNAPSHOT => table::SNAPSHOT,
-        Record::INDEX => table::INDEX,
-        Record::VOLUME_INDEX => table::VOLUME_INDEX,
-        Record::SECURITY_STATUS => table::SECURITY_STATUS,
-        Record::STATISTICS => table::STATISTICS,
-        Record::RESEND => table::RESEND,
-        Record::CHANNEL_HEARTBEAT => table::CHANNEL_HEARTBEAT,
-        Record::HEARTBEAT => table::HEARTBEAT,
-        _ => table::UNKNOWN,
+        Record::ORDER => "order",
+        Record::TRADE => "trade",
+        Record::SNAPSHOT => "snapshot",
+        Record::INDEX => "index",
+        Record::VOLUME_INDEX => "volume index",
+        Record::SECURITY_STATUS => "security status",
+        Record::STATISTICS => "statistics",
+        Record::RESEND => "resend",
+        _ => "channel heartbeat",
     }
 }
 
-fn refused(kind: u32) -> u64 {
-    match kind {
-        Record::ORDER => table::REFUSED_ORDER,
-        Record::TRADE => table::REFUSED_TRADE,
-        Record::SNAPSHOT => table::REFUSED_SNAPSHOT,
-        Record::INDEX => table::REFUSED_INDEX,
-        Record::VOLUME_INDEX => table::REFUSED_VOLUME_INDEX,
-        Record::SECURITY_STATUS => table::REFUSED_SECURITY_STATUS,
-        Record::STATISTICS => table::REFUSED_STATISTICS,
-        Record::RESEND => table::REFUSED_RESEND,
-        _ => table::REFUSED_CHANNEL_HEARTBEAT,
-    }
-}
-
-// How many groups or entries stand below a record.
-fn count(r: Record) -> u32 {
-    match r {
-        Record::Heartbeat => 0,
-        Record::ChannelHeartbeat(_) => 0,
-        Record::Resend(_) => 0,
-        Record::Statistics(x) => x.count,
-        Record::SecurityStatus(x) => x.count,
-        Record::Snapshot(x) => x.count,
-        Record::Index(x) => x.count,
-        Record::VolumeIndex(_) => 0,
-        Record::Order(_) => 0,
-        Record::Trade(_) => 0,
-        Record::Unknown(_) => 0,
-    }
-}
-
-// The line of a frame, and how many groups or entries stand below it: none where the record is refused.
+// The texts of a record of a type.
 #[derive(Clone, Copy)]
-pub struct Head {
-    pub line: Line,
-    pub count: u32,
+struct Texts<'a> {
+    kind: u32,
+    bytes: &'a [u8],
 }
 
-// The line of a frame at an offset.
-pub fn of_frame(offset: i64, kind: u32, body: &[u8]) -> Head {
-    let reading = record::read(kind, body);
-    let answer = reading.answer;
-    let found = reading.texts;
-    let texts = found.bytes;
-    let len = wire::signed(body.len() as u64);
-    match answer {
-        Answer::Read(r) => Head {
-            line: full(texts, number(kind), fields(offset, r, len)),
-            count: count(r),
-        },
-        Answer::Refused(why) => Head {
-            line: full(texts, refused(kind), few(offset, why.number() as i64, 0, 0)),
-            count: 0,
-        },
+impl<'a> Texts<'a> {
+    fn get(self, which: Text) -> Trimmed<'a> {
+        Trimmed(text_of(self.kind, which, self.bytes))
+    }
+}
+
+impl Showing {
+    fn order(&mut self, at: i64, r: Order, texts: Texts) {
+        let _ = writeln!(
+            self.lines,
+            "{at} order: channel {}, number {}, stream \"{}\", security \"{}\", source \"{}\", price {}, quantity {}, side {}, time {}, order type {}",
+            r.channel,
+            r.number,
+            texts.get(Text::Stream),
+            texts.get(Text::Security),
+            texts.get(Text::Source),
+            Decimal(r.order_price, PRICE),
+            Decimal(r.quantity, QUANTITY),
+            Character(r.side),
+            Time(r.time),
+            Character(r.order_type)
+        );
+    }
+
+    fn trade(&mut self, at: i64, r: Trade, texts: Texts) {
+        let _ = writeln!(
+            self.lines,
+            "{at} trade: channel {}, number {}, stream \"{}\", bid number {}, offer number {}, security \"{}\", source \"{}\", price {}, quantity {}, execution type {}, time {}",
+            r.channel,
+            r.number,
+            texts.get(Text::Stream),
+            r.bid_number,
+            r.offer_number,
+            texts.get(Text::Security),
+            texts.get(Text::Source),
+            Decimal(r.trade_price, PRICE),
+            Decimal(r.quantity, QUANTITY),
+            Character(r.execution),
+            Time(r.time)
+        );
+    }
+
+    // The common part of snapshots and indices, and the field behind it.
+    fn common(&mut self, at: i64, r: Common, texts: Texts, last: &str, field: u32) {
+        let _ = writeln!(
+            self.lines,
+            "{at} {}: time {}, channel {}, stream \"{}\", security \"{}\", source \"{}\", phase \"{}\", previous close {}, trade count {}, volume {}, amount {}, {last} {field}",
+            name(texts.kind),
+            Time(r.time),
+            r.channel,
+            texts.get(Text::Stream),
+            texts.get(Text::Security),
+            texts.get(Text::Source),
+            texts.get(Text::Phase),
+            Decimal(r.previous_close, PRICE),
+            r.trade_count,
+            Decimal(r.volume, QUANTITY),
+            Decimal(r.amount, AMOUNT)
+        );
+    }
+
+    fn security_status(&mut self, at: i64, r: SecurityStatus, texts: Texts) {
+        let _ = writeln!(
+            self.lines,
+            "{at} security status: time {}, channel {}, security \"{}\", source \"{}\", financial status \"{}\", count {}",
+            Time(r.time),
+            r.channel,
+            texts.get(Text::Security),
+            texts.get(Text::Source),
+            texts.get(Text::FinancialStatus),
+            r.count
+        );
+    }
+
+    fn resend(&mut self, at: i64, r: Resend, texts: Texts) {
+        let _ = writeln!(
+            self.lines,
+            "{at} resend: resend type {}, channel {}, first {}, last {}, news id \"{}\", status {}, text \"{}\"",
+            r.resend_type,
+            r.channel,
+            r.first_number,
+            r.last_number,
+            texts.get(Text::NewsId),
+            r.status,
+            texts.get(Text::RejectText)
+        );
+    }
+
+    // The line of a record that was read from a body of len bytes.
+    fn record(&mut self, at: i64, r: Record, texts: Texts, len: usize) {
+        match r {
+            Record::Heartbeat => {
+                let _ = writeln!(self.lines, "{at} heartbeat");
+            }
+            Record::ChannelHeartbeat(x) => {
+                let _ = writeln!(
+                    self.lines,
+                    "{at} channel heartbeat: channel {}, last number {}, end {}",
+                    x.channel, x.last_number, x.end
+                );
+            }
+            Record::Resend(x) => self.resend(at, x, texts),
+            Record::Statistics(x) => {
+                let _ = writeln!(
+                    self.lines,
+                    "{at} statistics: time {}, channel {}, count {}",
+                    Time(x.time),
+                    x.channel,
+                    x.count
+                );
+            }
+            Record::SecurityStatus(x) => self.security_status(at, x, texts),
+            Record::Snapshot(x) => self.common(at, x.common, texts, "count", x.count),
+            Record::Index(x) => self.common(at, x.common, texts, "count", x.count),
+            Record::VolumeIndex(x) => self.common(
+                at,
+                x.common,
+                texts,
+                "stock number",
+                x.stock_number,
+            ),
+            Record::Order(x) => self.order(at, x, texts),
+            Record::Trade(x) => self.trade(at, x, texts),
+            Record::Unknown(kind) => {
+                let _ = writeln!(self.lines, "{at} unknown: type {kind}, body length {len}");
+            }
+        }
+    }
+
+    // All lines of a frame: its record's, and those below it; none are below a record that is refused.
+    pub fn frame(&mut self, kind: u32, body: &[u8]) -> io::Result<()> {
+        self.room()?;
+        let at = self.offset.cast_signed();
+        match record::read(kind, body) {
+            Ok(Reading { record, texts }) => {
+                let bytes = &texts.bytes;
+                self.record(at, record, Texts { kind, bytes }, body.len());
+                match record {
+                    Record::Statistics(x) => self.groups(kind, body, x.count),
+                    Record::SecurityStatus(x) => self.groups(kind, body, x.count),
+                    Record::Snapshot(x) => self.entries(kind, body, x.count),
+                    Record::Index(x) => self.entries(kind, body, x.count),
+                    _ => Ok(()),
+                }
+            }
+            Err(why) => {
+                let _ = writeln!(
+                    self.lines,
+                    "{at} {}: refused {}",
+                    name(kind),
+                    u32::from(why)
+                );
+                Ok(())
+            }
+        }
     }
 }

@@ -33,21 +33,15 @@ pub enum Text {
     RejectText,
 }
 
-// The n bytes from an offset on, or those that are left.
+// The n bytes from an offset on, or those that are left. Two of the library's calls, as record has for itself: one of both would be a public call.
 pub fn span(s: &[u8], at: usize, n: usize) -> &[u8]
     ensures { result.now ≡ take n (drop at s.now) }
 {
-    let len = s.len();
-    if len <= at {
-        return &s[0..0];
-    }
-    if len - at < n {
-        return &s[at..len];
-    }
-    let end = at + n;
-    &s[at..end]
+    let rest = s.get(at..).unwrap_or(&[]);
+    &rest[..n.min(rest.len())]
 }
 
+// A function for each list of texts, here and below: each promises the texts of another layout.
 // Out of the texts of an order or a trade.
 #[tactic(auto, unfolding(layout::specs::Layout::text_in))]
 fn order_text(which: Text, texts: &[u8]) -> &[u8]
@@ -57,10 +51,7 @@ fn order_text(which: Text, texts: &[u8]) -> &[u8]
         Text::Stream => span(texts, 0, width::STREAM),
         Text::Security => span(texts, SECURITY, width::SECURITY),
         Text::Source => span(texts, SOURCE, width::SOURCE),
-        Text::Phase => &texts[0..0],
-        Text::FinancialStatus => &texts[0..0],
-        Text::NewsId => &texts[0..0],
-        Text::RejectText => &texts[0..0],
+        _ => &[],
     }
 }
 
@@ -74,9 +65,7 @@ fn common_text(which: Text, texts: &[u8]) -> &[u8]
         Text::Security => span(texts, SECURITY, width::SECURITY),
         Text::Source => span(texts, SOURCE, width::SOURCE),
         Text::Phase => span(texts, PHASE, width::PHASE),
-        Text::FinancialStatus => &texts[0..0],
-        Text::NewsId => &texts[0..0],
-        Text::RejectText => &texts[0..0],
+        _ => &[],
     }
 }
 
@@ -86,13 +75,10 @@ fn status_text(which: Text, texts: &[u8]) -> &[u8]
     ensures { result.now ≡ text_in (meant which) (fields security_status) texts.now }
 {
     match which {
-        Text::Stream => &texts[0..0],
         Text::Security => span(texts, 0, width::SECURITY),
         Text::Source => span(texts, STATUS_SOURCE, width::SOURCE),
-        Text::Phase => &texts[0..0],
         Text::FinancialStatus => span(texts, FINANCIAL_STATUS, width::FINANCIAL_STATUS),
-        Text::NewsId => &texts[0..0],
-        Text::RejectText => &texts[0..0],
+        _ => &[],
     }
 }
 
@@ -102,13 +88,9 @@ fn resend_text(which: Text, texts: &[u8]) -> &[u8]
     ensures { result.now ≡ text_in (meant which) (fields resend) texts.now }
 {
     match which {
-        Text::Stream => &texts[0..0],
-        Text::Security => &texts[0..0],
-        Text::Source => &texts[0..0],
-        Text::Phase => &texts[0..0],
-        Text::FinancialStatus => &texts[0..0],
         Text::NewsId => span(texts, 0, width::NEWS_ID),
         Text::RejectText => span(texts, REJECT_TEXT, width::REJECT_TEXT),
+        _ => &[],
     }
 }
 
@@ -119,15 +101,12 @@ fn stream_text(which: Text, texts: &[u8]) -> &[u8]
 {
     match which {
         Text::Stream => span(texts, 0, width::STREAM),
-        Text::Security => &texts[0..0],
-        Text::Source => &texts[0..0],
         Text::Phase => span(texts, GROUP_PHASE, width::PHASE),
-        Text::FinancialStatus => &texts[0..0],
-        Text::NewsId => &texts[0..0],
-        Text::RejectText => &texts[0..0],
+        _ => &[],
     }
 }
 
+// `text_named` and `group_text_named` are over a type's number, and so are these.
 // A text of a record of a type, out of the record's texts; the empty part where the type does not have it.
 pub fn text_of(kind: u32, which: Text, texts: &[u8]) -> &[u8]
     ensures { result.now ≡ text_named kind (meant which) texts.now }
@@ -140,7 +119,7 @@ pub fn text_of(kind: u32, which: Text, texts: &[u8]) -> &[u8]
         Record::VOLUME_INDEX => common_text(which, texts),
         Record::ORDER => order_text(which, texts),
         Record::TRADE => order_text(which, texts),
-        _ => &texts[0..0],
+        _ => &[],
     }
 }
 
@@ -150,6 +129,6 @@ pub fn group_text_of(kind: u32, which: Text, texts: &[u8]) -> &[u8]
 {
     match kind {
         Record::STATISTICS => stream_text(which, texts),
-        _ => &texts[0..0],
+        _ => &[],
     }
 }

@@ -25,7 +25,7 @@ use Rattle.streams.specs.Steps.{Holding}
 use Rattle.streams.specs.Cutting.{PushCall, EndCall, PushAs, EndAs, Handed, from, given, Plays, push, next, wait, finish, give_up, whole, AtOnce, Cutting, Played, EveryCutting}
 use Rattle.streams.proofs.States.{none-lacks, take-splice, led-going, push-on, end_on}
 use Rattle.streams.proofs.Pushes.{on-frame, on_lacking, on-stopping, kept_behind}
-use Rattle.streams.proofs.Readings.{Stopping, not_short, again_end, again_left, Read, a_frame, lacking, stopped, reads, holds-none, length_held, held_front, left-room, more_front, holds_more, stopped_push, stopped_end}
+use Rattle.streams.proofs.Readings.{Stopping, not_short, again_end, again_left, Read, a_frame, lacking, stopped, reads, holds-none, length_held, held_front, left-room, more_front, holds_more, is_stopped}
 
 -- calls that answer just what is defined
 pub record Answers (h limit : ℕ) (Push : PushCall) (End : EndCall) : Type 0 where
@@ -139,7 +139,7 @@ module _ (h limit : ℕ) (g : 4 ≤ h) where
         Stopping n → st ≡ state n 0 → longest h limit ≤ length buffer → (hs ≡ []) × (a ≡ refused n [])
     over_at_once {st} {buffer} {n = n} (push {c = c} t left p rest) z e b =
         let q = x.push_as p in
-        let s = stopped_push h limit buffer c z b in
+        let s = (is_stopped h limit buffer (state n 0) z refl refl b).pushes c in
         let y : t ≡ stay (refused n []) (state n 0) = q.0 ∙ rw e s.0 in
         let l : left ≡ buffer = q.1 ∙ rw e s.1 in
         let i = over_at_once rest z (ap (λ (m : Told). m.next) y) (rw l b) in
@@ -147,10 +147,10 @@ module _ (h limit : ℕ) (g : 4 ≤ h) where
     over_at_once (next rest) z e b = over_at_once rest z e b
     over_at_once (wait w rest) z e b = over_at_once rest z e b
     over_at_once {st} {buffer} {n = n} (finish t p) z e b =
-        let y : t ≡ stay (refused n []) (state n 0) = x.end_as p ∙ rw e (stopped_end h limit buffer z b) in
+        let y : t ≡ stay (refused n []) (state n 0) = x.end_as p ∙ rw e (is_stopped h limit buffer (state n 0) z refl refl b).ends in
         (refl, ap (λ (m : Told). m.said) y)
     over_at_once {st} {buffer} {n = n} (give_up {c = c} t left m vs p f) z e b =
-        let y : t ≡ stay (refused n []) (state n 0) = (x.push_as p).0 ∙ rw e (stopped_push h limit buffer c z b).0 in
+        let y : t ≡ stay (refused n []) (state n 0) = (x.push_as p).0 ∙ rw e ((is_stopped h limit buffer (state n 0) z refl refl b).pushes c).0 in
         (refl, ap (λ (m : Told). m.said) y)
 
     -- what is told of a stream that goes on, and the buffer then

@@ -20,15 +20,15 @@ use Rattle.frame.specs.Framing.{read, longest, length_of, sum_held, sum_made}
 use Rattle.frame.specs.Wanting.{wanting, reach}
 use Rattle.frame.specs.declared.Frame.{Frame}
 use Rattle.frame.proofs.Framing.{is_too_long, is_wrong_sum, read_as_lem}
-use Rattle.frame.proofs.Far.{above, at-end, wants, reach-within}
+use Rattle.frame.proofs.Far.{above, at-end, wants}
 use Rattle.streams.specs.declared.Stream.{Stream}
-use Rattle.streams.specs.Stream.{going, over, state, new_stream, Said, more, Told, unfinished, led, read_on, kept_on, stay, answer_again, lacked_by, pushed, buffer_left, ended}
-use Rattle.streams.specs.Steps.{Holding}
+use Rattle.streams.specs.Stream.{going, over, state, new_stream, more, Told, unfinished, led, read_on, kept_on, stay, answer_again, lacked_by, pushed, buffer_left, ended}
+use Rattle.streams.specs.Steps.{Holding, Standing}
 use Rattle.streams.specs.Cutting.{PushCall, EndCall}
 use Rattle.streams.specs.Leads.{Leads, fresh, push, close, Takes, Ten, TenPushed, TenEnded, SaysAgain, Repeats}
-use Rattle.streams.proofs.States.{Led, goes, told, stop2, stop3, led_as, led-known, held_of, push-on, push-over, push-malformed, end_on, end-over, end-malformed}
-use Rattle.streams.proofs.Pushes.{on-frame, on_lacking, on-stopping, kept_all, kept_none}
-use Rattle.streams.proofs.Readings.{Stopping, by_2, by_3, not_short, stop-led, again_end, again_left, Read, a_frame, lacking, stopped, reads, holds-none, left-room, holds_more, stopped_push, stopped_end}
+use Rattle.streams.proofs.States.{Led, goes, told, stop2, stop3, led_as, led-known, held_of, push-on, push-over, push-malformed, end_on, end-over, end-malformed, malformed_stands, over_stands}
+use Rattle.streams.proofs.Pushes.{push-within, on-frame, on_lacking, on-stopping, kept_all, kept_none}
+use Rattle.streams.proofs.Readings.{Stopping, by_2, by_3, not_short, stop-led, again_end, again_left, Read, a_frame, lacking, stopped, reads, holds-none, left-room, holds_more, is_stopped}
 use Rattle.streams.proofs.Cuttings.{Answers}
 
 -- ---- bytes at which a stream stops, by header and limit
@@ -278,15 +278,6 @@ module _ (h limit : ℕ) (g : 4 ≤ h) where
 
     -- ---- what is taken
 
-    push-within : (st : Stream) (buffer c : List ℕ) → (pushed h limit st buffer c).took ≤ length c
-    push-within st buffer c = by (led h limit st buffer) refl st.mark refl where
-      by : (t : Bool) → led h limit st buffer ≡ t → (mark : ℕ) → st.mark ≡ mark → (pushed h limit st buffer c).took ≤ length c
-      by false e mark m = rw (push-malformed h limit buffer st c e).0 (omega arith)
-      by true e zero m =
-          let u = unfinished st buffer in
-          rw ((push-on h limit buffer st c e m).0, on-took h limit u c) (omega (arith, reach-within h limit (u ++ c), length-append u c))
-      by true e (suc k) m = rw (push-over h limit buffer st c e (λ o. omega arith)).0 (omega arith)
-
     push-nothing :
         (st : Stream) (buffer : List ℕ) → led h limit st buffer ≡ true → st.mark ≡ going →
         (pushed h limit st buffer [] ≡ stay (accepted (more (lacked_by h limit st buffer ∷ []))) st) × (buffer_left h limit st buffer [] ≡ buffer)
@@ -303,7 +294,7 @@ module _ (h limit : ℕ) (g : 4 ≤ h) where
     pub takes : Takes h limit Push End
     takes =
         record {
-          within = λ st buffer c t left p. rw (x.push_as p).0 (push-within st buffer c);
+          within = λ st buffer c t left p. rw (x.push_as p).0 (push-within h limit st buffer c);
           nothing = λ st buffer t left from m p.
               let n = push-nothing st buffer (leads_led from) m in
               ((x.push_as p).0 ∙ n.0, (x.push_as p).1 ∙ n.1);
@@ -311,21 +302,7 @@ module _ (h limit : ℕ) (g : 4 ≤ h) where
 
     -- ---- what is repeated
 
-    -- a state that stays, with what it answered
-    pub record Stuck (st : Stream) (buffer : List ℕ) (a : Answer Said) : Type 0 where
-      pub pushes : (c : List ℕ) → (pushed h limit st buffer c ≡ stay a st) × (buffer_left h limit st buffer c ≡ buffer)
-      pub ends : ended h limit st buffer ≡ stay a st
-
-    stuck_malformed : (st : Stream) (buffer : List ℕ) → led h limit st buffer ≡ false → Stuck st buffer (refused malformed [])
-    stuck_malformed st buffer e = record { pushes = λ c. push-malformed h limit buffer st c e; ends = end-malformed h limit buffer st e }
-
-    stuck_over : (st : Stream) (buffer : List ℕ) → led h limit st buffer ≡ true → (st.mark ≡ going → ⊥) → Stuck st buffer (answer_again (lacked_by h limit st buffer) st)
-    stuck_over st buffer e m = record { pushes = λ c. push-over h limit buffer st c e m; ends = end-over h limit buffer st e m }
-
-    stuck_stopped : (buffer : List ℕ) {n : ℕ} → Stopping n → longest h limit ≤ length buffer → Stuck (state n 0) buffer (refused n [])
-    stuck_stopped buffer z b = record { pushes = λ c. stopped_push h limit buffer c z b; ends = stopped_end h limit buffer z b }
-
-    says_again : (t : Told) (buffer : List ℕ) → Stuck t.next buffer t.said → SaysAgain Push End t buffer
+    says_again : (t : Told) (buffer : List ℕ) → Standing h limit t.next buffer t.said → SaysAgain Push End t buffer
     says_again t buffer s =
         record {
           pushed = λ c again left p. ((x.push_as p).0 ∙ (s.pushes c).0, (x.push_as p).1 ∙ (s.pushes c).1);
@@ -335,19 +312,19 @@ module _ (h limit : ℕ) (g : 4 ≤ h) where
     on-refused :
         (buffer : List ℕ) (held : ℕ) (c : List ℕ) (n : ℕ) (vs : List ℕ) → Holding h limit buffer held → (read_on h limit (take held buffer) c).said ≡ refused n vs →
         (r : Answer Frame) → read h limit (take held buffer ++ c) ≡ r → Read h limit (take held buffer ++ c) r →
-        Stuck (read_on h limit (take held buffer) c).next (kept_on h limit (take held buffer) c buffer) (read_on h limit (take held buffer) c).said
+        Standing h limit (read_on h limit (take held buffer) c).next (kept_on h limit (take held buffer) c buffer) (read_on h limit (take held buffer) c).said
     on-refused buffer held c n vs k d _ e (a_frame f) = absurd (not-both (ap (λ (t : Told). t.said) (on-frame h limit (take held buffer) c f e)) d)
     on-refused buffer held c n vs k d _ e (lacking z) = absurd (not-both (ap (λ (t : Told). t.said) (on_lacking h limit (take held buffer) c z)) d)
     on-refused buffer held c m vs k d _ e (stopped {n} z) =
-        rw (on-stopping h limit (take held buffer) c n [] e (not_short z)) (stuck_stopped _ z (left-room h limit g buffer held c k))
+        rw (on-stopping h limit (take held buffer) c n [] e (not_short z)) (is_stopped h limit _ (state n 0) z refl refl (left-room h limit g buffer held c k))
 
-    push_stuck :
+    push_stands :
         (st : Stream) (buffer c : List ℕ) (n : ℕ) (vs : List ℕ) → (pushed h limit st buffer c).said ≡ refused n vs →
-        Stuck (pushed h limit st buffer c).next (buffer_left h limit st buffer c) (pushed h limit st buffer c).said
-    push_stuck st buffer c n vs d = by (led h limit st buffer) refl st.mark refl where
+        Standing h limit (pushed h limit st buffer c).next (buffer_left h limit st buffer c) (pushed h limit st buffer c).said
+    push_stands st buffer c n vs d = by (led h limit st buffer) refl st.mark refl where
       by : (t : Bool) → led h limit st buffer ≡ t → (mark : ℕ) → st.mark ≡ mark →
-          Stuck (pushed h limit st buffer c).next (buffer_left h limit st buffer c) (pushed h limit st buffer c).said
-      by false e mark m = let p = push-malformed h limit buffer st c e in rw (p.0, p.1) (stuck_malformed st buffer e)
+          Standing h limit (pushed h limit st buffer c).next (buffer_left h limit st buffer c) (pushed h limit st buffer c).said
+      by false e mark m = let p = push-malformed h limit buffer st c e in rw (p.0, p.1) (malformed_stands h limit buffer st e)
       by true e zero m =
           let p = push-on h limit buffer st c e m in
           rw (p.0, p.1)
@@ -356,24 +333,24 @@ module _ (h limit : ℕ) (g : 4 ≤ h) where
       by true e (suc k) m =
           let z : st.mark ≡ going → ⊥ = λ o. omega arith in
           let p = push-over h limit buffer st c e z in
-          rw (p.0, p.1) (stuck_over st buffer e z)
+          rw (p.0, p.1) (over_stands h limit buffer st e z)
 
-    end_stuck : (st : Stream) (buffer : List ℕ) → Stuck (ended h limit st buffer).next buffer (ended h limit st buffer).said
-    end_stuck st buffer = by (led h limit st buffer) refl st.mark refl where
-      by : (t : Bool) → led h limit st buffer ≡ t → (mark : ℕ) → st.mark ≡ mark → Stuck (ended h limit st buffer).next buffer (ended h limit st buffer).said
-      by false e mark m = rw (end-malformed h limit buffer st e) (stuck_malformed st buffer e)
+    end_stands : (st : Stream) (buffer : List ℕ) → Standing h limit (ended h limit st buffer).next buffer (ended h limit st buffer).said
+    end_stands st buffer = by (led h limit st buffer) refl st.mark refl where
+      by : (t : Bool) → led h limit st buffer ≡ t → (mark : ℕ) → st.mark ≡ mark → Standing h limit (ended h limit st buffer).next buffer (ended h limit st buffer).said
+      by false e mark m = rw (end-malformed h limit buffer st e) (malformed_stands h limit buffer st e)
       by true e zero m =
           rw (end_on h limit buffer st e m)
-          (stuck_over (state over st.held) buffer (led_as h limit buffer (told (held_of h limit buffer st e m))) (λ o. omega arith))
+          (over_stands h limit buffer (state over st.held) (led_as h limit buffer (told (held_of h limit buffer st e m))) (λ o. omega arith))
       by true e (suc k) m =
           let z : st.mark ≡ going → ⊥ = λ o. omega arith in
-          rw (end-over h limit buffer st e z) (stuck_over st buffer e z)
+          rw (end-over h limit buffer st e z) (over_stands h limit buffer st e z)
 
     pub repeats : Repeats Push End
     repeats =
         record {
           refusal = λ st buffer c t left n vs p d.
               let q = x.push_as p in
-              says_again t left (rw (q.0, q.1) (push_stuck st buffer c n vs (sym (ap (λ (t : Told). t.said) q.0) ∙ d)));
-          end = λ st buffer t p. says_again t buffer (rw (x.end_as p) (end_stuck st buffer));
+              says_again t left (rw (q.0, q.1) (push_stands st buffer c n vs (sym (ap (λ (t : Told). t.said) q.0) ∙ d)));
+          end = λ st buffer t p. says_again t buffer (rw (x.end_as p) (end_stands st buffer));
         }

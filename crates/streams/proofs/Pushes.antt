@@ -11,13 +11,14 @@ use lib.ListN.{length, take, drop, length-append, length-drop, length-take, take
 use lib.Seq.{length-take-le, take_all, take-add, take-append-add}
 use Rattle.wire.specs.Answer.{Answer, accepted, refused, RefusedBy, with_values}
 use Rattle.wire.specs.Bytes.{splice}
-use Rattle.wire.specs.Refusal.{too_short}
+use Rattle.wire.specs.Refusal.{too_short, malformed}
 use Rattle.wire.proofs.PutAt.{length-splice, splice-more}
 use Rattle.frame.specs.Framing.{read, longest}
 use Rattle.frame.specs.Wanting.{wanting, reach}
 use Rattle.frame.specs.declared.Frame.{Frame}
 use Rattle.frame.proofs.Far.{in_header, wants, missing, judged, reach-within, reach_limit, short_reach, whole-reach, done, still, onward_to, header-there, end-there, stops, stop-wants}
-use Rattle.streams.specs.Stream.{going, state, new_stream, frame, more, in_cut, stands, next_of, taken, read_on, kept_on}
+use Rattle.streams.specs.declared.Stream.{Stream}
+use Rattle.streams.specs.Stream.{going, state, new_stream, Said, frame, more, in_cut, stands, next_of, taken, read_on, kept_on, stay, answer_again, lacked_by, unfinished, led, pushed}
 use Rattle.streams.specs.Steps.{Holding, Lacking, Brought, Judgeable, more_told, judged as judged_as}
 use Rattle.streams.proofs.States.{fits, take-splice, not-one}
 
@@ -117,7 +118,6 @@ module _ (h limit : ℕ) (buffer : List ℕ) (held : ℕ) (c : List ℕ) where
   pub keep_all :
       {w : ℕ} → Lacking h limit buffer held c w →
       (held + length c ≤ length buffer)
-      × (length c ≤ longest h limit)
       × (more_told (length c) (held + length c) w ≡ read_on h limit (take held buffer) c)
       × (splice buffer held c ≡ kept_on h limit (take held buffer) c buffer)
   keep_all k =
@@ -127,7 +127,6 @@ module _ (h limit : ℕ) (buffer : List ℕ) (held : ℕ) (c : List ℕ) where
       let z : 0 < wanting h limit (u ++ c) = omega (arith, k.wants, k.lacks) in
       let f = fits h limit (u ++ c) z in (
         omega (arith, f, n, k.room),
-        omega (arith, f, n),
         sym (on_lacking h limit u c z ∙ rw (n, ← k.wants)),
         sym (kept_all h limit u c buffer z ∙ rw l),
       )
@@ -148,7 +147,7 @@ none_lacking h limit buffer c b e z = record { room = b; within = omega arith; w
 -- so many bytes of the cut are judged with those held, and no more are: where they go, and what the call tells then
 pub record Ends (h limit : ℕ) (buffer : List ℕ) (held : ℕ) (c : List ℕ) (n : ℕ) : Type 0 where
   pub room : held + n ≤ length buffer
-  pub fits : (held + length (take n c) ≤ length buffer) × (length (take n c) ≤ longest h limit)
+  pub fits : held + length (take n c) ≤ length buffer
   pub size : length (splice buffer held (take n c)) ≡ length buffer
   pub enough : Judgeable h limit (take (held + n) (splice buffer held (take n c))) held
   pub told : judged_as h limit (take (held + n) (splice buffer held (take n c))) held ≡ read_on h limit (take held buffer) c
@@ -183,18 +182,18 @@ module _ (h limit : ℕ) (buffer : List ℕ) (held lacks : ℕ) (c : List ℕ) (
     full-room : held + n ≤ length buffer
     full-room = omega (arith, r, reach_limit h limit (u ++ c), k.room)
 
-    full_fits : (held + length (take n c) ≤ length buffer) × (length (take n c) ≤ longest h limit)
-    full_fits = (omega (arith, length_taken, full-room), omega (arith, length_taken, r, reach_limit h limit (u ++ c)))
+    full_fits : held + length (take n c) ≤ length buffer
+    full_fits = omega (arith, length_taken, full-room)
 
     full-length : length full ≡ length buffer
-    full-length = length-splice buffer held (take n c) full_fits.0
+    full-length = length-splice buffer held (take n c) full_fits
 
     -- the buffer begins with them
     full_front : take (held + n) full ≡ take (reach h limit (u ++ c)) (u ++ c)
     full_front =
         let e : held + n ≡ held + length (take n c) = omega (arith, length_taken) in
         let m : reach h limit (u ++ c) ≡ length u + n = omega (arith, r, length_u) in
-        let x : take (held + n) full ≡ u ++ take n c = rw e (take-splice buffer held (take n c) full_fits.0) in
+        let x : take (held + n) full ≡ u ++ take n c = rw e (take-splice buffer held (take n c) full_fits) in
         let y : take (reach h limit (u ++ c)) (u ++ c) ≡ u ++ take n c = rw m (take-append-add u c n) in
         x ∙ sym y
 
@@ -274,44 +273,26 @@ module _ (h limit : ℕ) (buffer : List ℕ) (held lacks : ℕ) (c : List ℕ) (
       let e = front_ends (end-there h limit u some g (omega (arith, length_u)) k.lacks (length_some ∙ q.wants)) in
       ends lacks q.comes e.0 e.1
 
-  -- more of the cut goes behind it
-  more_bytes :
-      (n : ℕ) → lacks + n ≤ length c → held + lacks + n ≤ length buffer →
-      splice first (held + lacks) (take n (drop lacks c)) ≡ splice buffer held (take (lacks + n) c)
-  more_bytes n j r =
-      let t = take n (drop lacks c) in
-      let l : length t ≡ n = length-take-le n (drop lacks c) (omega (arith, left)) in
-      let o : held + lacks ≡ held + length some = omega (arith, length_some) in
-      rw o (splice-more buffer held some t (omega (arith, l, length_some)) ∙ rw (take-add lacks n c))
-
   -- less comes than is missing then
-  less_lacking : length c - lacks < wanting h limit front → Lacking h limit buffer held c (wanting h limit front - (length c - lacks))
+  less_lacking : length (drop lacks c) < wanting h limit front → Lacking h limit buffer held c (wanting h limit front - length (drop lacks c))
   less_lacking j =
-      let w = rw all at (still h limit front (drop lacks c) g (omega (arith, left))).0 in
-      record { room = k.room; within = k.within; wants = omega (arith, left, w); lacks = omega arith }
+      let w = rw all at (still h limit front (drop lacks c) g j).0 in
+      record { room = k.room; within = k.within; wants = omega (arith, w); lacks = omega arith }
 
   pub go_less :
-      length c - lacks < wanting h limit front →
-      (more_told (length c) (held + length c) (wanting h limit front - (length c - lacks)) ≡ read_on h limit u c)
-      × (splice first (held + lacks) (take (length c - lacks) (drop lacks c)) ≡ kept_on h limit u c buffer)
+      length (drop lacks c) < wanting h limit front →
+      (held + lacks + length (drop lacks c) ≤ length first)
+      × (more_told (length c) (held + length c) (wanting h limit front - length (drop lacks c)) ≡ read_on h limit u c)
+      × (splice first (held + lacks) (drop lacks c) ≡ kept_on h limit u c buffer)
   go_less j =
       let s = keep_all h limit buffer held c (less_lacking j) in
-      let n : lacks + (length c - lacks) ≡ length c = omega arith in
-      let t : take (lacks + (length c - lacks)) c ≡ c = rw n (take_all (length c) c (omega arith)) in
-      (s.2, more_bytes (length c - lacks) (omega arith) (omega (arith, s.0)) ∙ rw t s.3)
-
-  pub less_fits :
-      length c - lacks < wanting h limit front →
-      (held + lacks + length (take (length c - lacks) (drop lacks c)) ≤ length first)
-      × (length (take (length c - lacks) (drop lacks c)) ≤ longest h limit)
-  less_fits j =
-      let l : length (take (length c - lacks) (drop lacks c)) ≡ length c - lacks = length-take-le (length c - lacks) (drop lacks c) (omega (arith, left)) in
-      let s = keep_all h limit buffer held c (less_lacking j) in
-      (omega (arith, l, first-length, s.0), omega (arith, l, s.1))
+      let o : held + lacks ≡ held + length some = omega (arith, length_some) in
+      let m = splice-more buffer held some (drop lacks c) (omega (arith, s.0, left, length_some)) in
+      (omega (arith, left, first-length, s.0), s.1, rw o (m ∙ rw (take-append-drop lacks c) s.2))
 
   -- ---- or as much
 
-  module _ (j : wanting h limit front ≤ length c - lacks) where
+  module _ (j : wanting h limit front ≤ length (drop lacks c)) where
     abbrev rest : ℕ
     rest = wanting h limit front
 
@@ -319,7 +300,7 @@ module _ (h limit : ℕ) (buffer : List ℕ) (held lacks : ℕ) (c : List ℕ) (
     next = take rest (drop lacks c)
 
     length-next : length next ≡ rest
-    length-next = length-take-le rest (drop lacks c) (omega (arith, left))
+    length-next = length-take-le rest (drop lacks c) j
 
     -- the reading goes just so far
     by_rest : (n : ℕ) → rest ≡ n → (wanting h limit (u ++ c) ≡ 0) × (reach h limit (u ++ c) ≡ held + (lacks + rest))
@@ -341,13 +322,30 @@ module _ (h limit : ℕ) (buffer : List ℕ) (held lacks : ℕ) (c : List ℕ) (
     rest_goes = by_rest rest refl
 
     pub rest_comes : Ends h limit buffer held c (lacks + rest)
-    rest_comes = ends (lacks + rest) (omega arith) rest_goes.0 rest_goes.1
+    rest_comes = ends (lacks + rest) (omega (arith, left)) rest_goes.0 rest_goes.1
 
     rest_room : held + lacks + rest ≤ length buffer
     rest_room = omega (arith, rest_goes.1, reach_limit h limit (u ++ c), k.room)
 
-    pub rest_fits : (held + lacks + length next ≤ length first) × (length next ≤ longest h limit)
-    rest_fits = (omega (arith, length-next, first-length, rest_room), omega (arith, length-next, rest_goes.1, reach_limit h limit (u ++ c)))
+    pub rest_fits : held + lacks + length next ≤ length first
+    rest_fits = omega (arith, length-next, first-length, rest_room)
 
     pub rest_bytes : splice first (held + lacks) next ≡ splice buffer held (take (lacks + rest) c)
-    rest_bytes = more_bytes rest (omega arith) rest_room
+    rest_bytes =
+        let o : held + lacks ≡ held + length some = omega (arith, length_some) in
+        rw o (splice-more buffer held some next (omega (arith, rest_room, length-next, length_some)) ∙ rw (take-add lacks rest c))
+
+-- ---- no call takes more than the cut has
+
+module _ (h limit : ℕ) (st : Stream) (buffer : List ℕ) where
+  within_by :
+      (c : List ℕ) (x : Answer Said) (a b : Bool) →
+      (cond a (cond b (read_on h limit (unfinished st buffer) c) (stay x st)) (stay (refused malformed []) st)).took ≤ length c
+  unfolding read_on
+  within_by c x true true = omega (arith, reach-within h limit (unfinished st buffer ++ c), length-append (unfinished st buffer) c)
+  within_by c x true false = omega arith
+  within_by c x false b = omega arith
+
+  pub push-within : (c : List ℕ) → (pushed h limit st buffer c).took ≤ length c
+  unfolding pushed
+  push-within c = within_by c (answer_again (lacked_by h limit st buffer) st) (led h limit st buffer) (eqb st.mark going)

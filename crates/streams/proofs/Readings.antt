@@ -1,7 +1,7 @@
 -- What a cut reads as behind the bytes of an unfinished frame, and what follows for the next state; over the header's width and the body limit.
 -- Assumes nothing.
 use Prim.Native.Nat.{ℕ, ◌≤◌, ◌<◌}
-use mathlib.Core.Path.{◌≡◌, refl}
+use mathlib.Core.Path.{◌≡◌, refl, sym, ◌∙◌}
 use mathlib.Core.List.{List, [], ◌∷◌, ◌++◌}
 use native.Mathlib.Omega.{arith}
 use borrow.Author.Tests.{eq-eqb, ne_eqb}
@@ -14,9 +14,10 @@ use Rattle.frame.specs.Wanting.{wanting}
 use Rattle.frame.specs.declared.Frame.{Frame}
 use Rattle.frame.proofs.Framing.{Reading, no_header, is_too_long, cut, is_wrong_sum, whole, view}
 use Rattle.frame.proofs.Lacking.{told}
-use Rattle.streams.specs.Stream.{going, over, state, kept_on, stay, answer_again, lacked_by, pushed, buffer_left, ended, end}
-use Rattle.streams.specs.Steps.{Holding}
-use Rattle.streams.proofs.States.{fits, none-lacks, Led, stop2, stop3, led_as, push-over, end-over}
+use Rattle.streams.specs.Stream.{going, over, state, kept_on, answer_again, lacked_by, end}
+use Rattle.streams.specs.declared.Stream.{Stream}
+use Rattle.streams.specs.Steps.{Holding, Standing}
+use Rattle.streams.proofs.States.{fits, none-lacks, Led, stop2, stop3, led_as, over_stands}
 use Rattle.streams.proofs.Pushes.{kept_front, kept_length}
 
 -- ---- the refusals at which a stream stops
@@ -41,6 +42,15 @@ pub stop_again : (w : ℕ) {n : ℕ} → Stopping n → answer_again w (state n 
 unfolding answer_again
 stop_again w by_2 = refl
 stop_again w by_3 = refl
+
+-- a stream that stopped answers the same at every call
+pub is_stopped :
+    (h limit : ℕ) (buffer : List ℕ) (st : Stream) {n : ℕ} → Stopping n → st.mark ≡ n → st.held ≡ 0 → longest h limit ≤ length buffer →
+    Standing h limit st buffer (refused n [])
+is_stopped h limit buffer st {n} z m e b =
+    let l : Led h limit buffer st.mark st.held = rw (m, e) (stop-led z b) in
+    let a : answer_again (lacked_by h limit st buffer) st ≡ refused n [] = rw (m, e) (stop_again (wanting h limit (take 0 buffer)) z) in
+    rw (sym a) (over_stands h limit buffer st (led_as h limit buffer l) (λ g. not_going z (sym m ∙ g)))
 
 -- ---- what a stream that was told to have ended answers
 
@@ -101,18 +111,3 @@ module _ (h limit : ℕ) (g : 4 ≤ h) where
 
     pub holds_more : 0 < wanting h limit (u ++ c) → Holding h limit (kept_on h limit u c buffer) (length (u ++ c))
     holds_more z = record { room = left-room; within = omega (arith, left-room, fits h limit (u ++ c) z); lacks = rw (more_front z) z }
-
--- ---- a call on a stream that stopped
-
-pub stopped_push :
-    (h limit : ℕ) (buffer c : List ℕ) {n : ℕ} → Stopping n → longest h limit ≤ length buffer →
-    (pushed h limit (state n 0) buffer c ≡ stay (refused n []) (state n 0)) × (buffer_left h limit (state n 0) buffer c ≡ buffer)
-stopped_push h limit buffer c {n} z b =
-    let p = push-over h limit buffer (state n 0) c (led_as h limit buffer (stop-led z b)) (not_going z) in
-    (rw (stop_again (lacked_by h limit (state n 0) buffer) z) at p.0, p.1)
-
-pub stopped_end :
-    (h limit : ℕ) (buffer : List ℕ) {n : ℕ} → Stopping n → longest h limit ≤ length buffer →
-    ended h limit (state n 0) buffer ≡ stay (refused n []) (state n 0)
-stopped_end h limit buffer {n} z b =
-    rw (stop_again (lacked_by h limit (state n 0) buffer) z) at (end-over h limit buffer (state n 0) (led_as h limit buffer (stop-led z b)) (not_going z))

@@ -1,26 +1,26 @@
 -- The states that calls lead to, and what one call does in each.
 -- Assumes nothing.
-use Prim.Native.Nat.{ℕ, zero, suc, ◌+◌, ◌≤◌, ◌<◌}
+use Prim.Native.Nat.{ℕ, ◌+◌, ◌≤◌, ◌<◌}
 use mathlib.Core.Path.{◌≡◌, refl, ap, sym, ◌∙◌}
 use mathlib.Core.Bool.{Bool, true, false, cond, ◌&&◌, ◌||◌}
-use mathlib.Core.Logic.{◌⊎◌, inl, inr, ⊎_elim}
+use mathlib.Core.Logic.{◌⊎◌, inl, inr}
 use mathlib.Core.List.{List, [], ◌++◌}
 use native.Mathlib.Omega.{arith}
-use borrow.Author.Tests.{le-leb, lt-ltb, lt-leb, eq-eqb, ne_eqb, ltb-true, leb-true, leb-false, eqb-true, eqb-false}
-use lib.Dec.{ltb, leb, eqb}
+use borrow.Author.Tests.{le-leb, lt-ltb, eq-eqb, ne_eqb, ltb-true, leb-true, leb-false, eqb-true, eqb-false}
+use lib.Dec.{leb, ltb, eqb}
 use lib.ListN.{length, take}
-use lib.Seq.{take_all, take-length, take-paste}
-use Rattle.wire.specs.Answer.{refused, with_values}
+use lib.Seq.{take-length, take-paste}
+use Rattle.std.proofs.lemmas.Bool.{and_parts, or_cases}
+use Rattle.wire.specs.Answer.{Answer, refused, with_values}
 use Rattle.wire.specs.Bytes.{splice}
 use Rattle.wire.specs.Refusal.{too_short, too_long, wrong_sum, malformed}
 use Rattle.wire.proofs.PutAt.{paste_all}
 use Rattle.frame.specs.Framing.{read, longest}
 use Rattle.frame.specs.Wanting.{wanting}
-use Rattle.frame.proofs.Framing.{under}
 use Rattle.frame.proofs.Far.{Far, in_header, above, in_body, at-end, far, judged}
 use Rattle.streams.specs.declared.Stream.{Stream}
-use Rattle.streams.specs.Stream.{going, over, stopping, state, unfinished, led, read_on, kept_on, stay, answer_again, lacked_by, pushed, buffer_left, ended}
-use Rattle.streams.specs.Steps.{IsOver, Holding}
+use Rattle.streams.specs.Stream.{going, over, stopping, state, Said, unfinished, led, read_on, kept_on, stay, answer_again, lacked_by, pushed, buffer_left, ended}
+use Rattle.streams.specs.Steps.{Holding, Standing}
 
 -- bytes that lack some are fewer than the longest frame has
 fits_far : {h limit : ℕ} {s : List ℕ} {w r : ℕ} → Far h limit s w r → 0 < w → length s < longest h limit
@@ -31,13 +31,6 @@ fits_far (at-end a b d) z = absurd (omega arith)
 
 pub fits : (h limit : ℕ) (s : List ℕ) → 0 < wanting h limit s → length s < longest h limit
 fits h limit s z = fits_far (far h limit s) z
-
--- as many as that lack none
-pub enough-there : (h limit : ℕ) (s : List ℕ) → longest h limit ≤ length s → wanting h limit s ≡ 0
-enough-there h limit s b = by (wanting h limit s) refl where
-  by : (w : ℕ) → wanting h limit s ≡ w → wanting h limit s ≡ 0
-  by zero e = e
-  by (suc w) e = absurd (omega (arith, fits h limit s (omega arith)))
 
 -- no bytes lack some
 pub none-lacks : (h limit : ℕ) → 4 ≤ h → 0 < wanting h limit []
@@ -59,23 +52,6 @@ take-splice out n bs h =
     ∙ take-paste out n bs (length bs) (omega arith) (omega arith)
     ∙ ap (λ (x : List ℕ). take n out ++ x) (take-length bs)
 
--- ---- marks
-
-pub and_true : (a b : Bool) → a && b ≡ true → (a ≡ true) × (b ≡ true)
-and_true true b e = (refl, e)
-and_true false b e = let z : ◌≡◌ {A = ℕ} 0 1 = cc in absurd (omega arith)
-
-or_true : (a b : Bool) → a || b ≡ true → (a ≡ true) ⊎ (b ≡ true)
-or_true true b e = inl refl
-or_true false b e = inr e
-
--- a test that fails for the bytes that are held alone
-pub not_none : (held : ℕ) (a b : Bool) → (a && eqb held 0) && b ≡ false → a && b ≡ true → 0 < held
-not_none zero true true e f = let z : ◌≡◌ {A = ℕ} 0 1 = cc in absurd (omega arith)
-not_none zero true false e f = let z : ◌≡◌ {A = ℕ} 0 1 = cc in absurd (omega arith)
-not_none zero false b e f = let z : ◌≡◌ {A = ℕ} 0 1 = cc in absurd (omega arith)
-not_none (suc held) a b e f = omega arith
-
 -- ---- a state that calls lead to
 
 -- all that is known of one: it goes on or was told to have ended, with an unfinished frame; or it stopped
@@ -87,14 +63,6 @@ pub data Led (h limit : ℕ) (buffer : List ℕ) : ℕ → ℕ → Type 0 where
 
 module _ (h limit : ℕ) (buffer : List ℕ) where
   -- the tests, one by one
-
-  pub led-small : (st : Stream) → length buffer < longest h limit → false ≡ led h limit st buffer
-  unfolding led
-  led-small st b = rw (lt-leb (longest h limit) (length buffer) b)
-
-  pub led_beyond : (st : Stream) → longest h limit ≤ length buffer → length buffer < st.held → false ≡ led h limit st buffer
-  unfolding led
-  led_beyond st b l = rw (le-leb (longest h limit) (length buffer) b, lt-leb st.held (length buffer) l)
 
   pub led_young :
       (st : Stream) → longest h limit ≤ length buffer → st.held ≤ length buffer → eqb st.mark going || eqb st.mark over ≡ true →
@@ -134,27 +102,17 @@ module _ (h limit : ℕ) (buffer : List ℕ) where
       (mark held : ℕ) (t : Bool) → eqb mark going || eqb mark over ≡ t → longest h limit ≤ length buffer → held ≤ length buffer →
       cond t (ltb 0 (wanting h limit (take held buffer))) (stopping mark && eqb held 0) ≡ true → Led h limit buffer mark held
   by_mark mark held true e b l p =
-      by_young mark held (record { room = b; within = l; lacks = ltb-true 0 (wanting h limit (take held buffer)) p }) (or_true _ _ e)
+      by_young mark held (record { room = b; within = l; lacks = ltb-true 0 (wanting h limit (take held buffer)) p }) (or_cases _ _ e)
   by_mark mark held false e b l p =
-      let q = and_true _ _ p in
-      by_old mark held b (eqb-true held 0 q.1) (or_true _ _ q.0)
+      let q = and_parts _ _ p in
+      by_old mark held b (eqb-true held 0 q.1) (or_cases _ _ q.0)
 
   pub led-known : (st : Stream) → led h limit st buffer ≡ true → Led h limit buffer st.mark st.held
   unfolding led
   led-known st e =
-      let p = and_true _ _ e in
-      let q = and_true _ _ p.1 in
+      let p = and_parts _ _ e in
+      let q = and_parts _ _ p.1 in
       by_mark st.mark st.held _ refl (leb-true (longest h limit) (length buffer) p.0) (leb-true st.held (length buffer) q.0) q.1
-
-  -- its buffer takes the longest frame
-  room_of : {mark held : ℕ} → Led h limit buffer mark held → longest h limit ≤ length buffer
-  room_of (goes k) = k.room
-  room_of (told k) = k.room
-  room_of (stop2 b) = b
-  room_of (stop3 b) = b
-
-  pub led-room : (st : Stream) → led h limit st buffer ≡ true → longest h limit ≤ length buffer
-  led-room st e = room_of (led-known st e)
 
   -- ---- the calls
 
@@ -194,54 +152,6 @@ module _ (h limit : ℕ) (buffer : List ℕ) where
   unfolding ended
   end-malformed st e = rw e
 
-  -- one that does not go on, and one whose buffer is too small, is answered as at its end
-  by_tests :
-      (st : Stream) (c : List ℕ) (a b l : Bool) → eqb st.mark going ≡ a → leb (longest h limit) (length buffer) ≡ b → led h limit st buffer ≡ l →
-      a && b ≡ false → (pushed h limit st buffer c ≡ ended h limit st buffer) × (buffer_left h limit st buffer c ≡ buffer)
-  by_tests st c a b false p q e z = let m = push-malformed st c e in (m.0 ∙ sym (end-malformed st e), m.1)
-  by_tests st c false b true p q e z =
-      let n : st.mark ≡ going → ⊥ = eqb-false st.mark going p in
-      let m = push-over st c e n in
-      (m.0 ∙ sym (end-over st e n), m.1)
-  by_tests st c true true true p q e z = let y : ◌≡◌ {A = ℕ} 0 1 = cc in absurd (omega arith)
-  by_tests st c true false true p q e z = absurd (omega (arith, room_of (led-known st e), leb-false (longest h limit) (length buffer) q))
-
-  pub push-ends :
-      (st : Stream) (c : List ℕ) → eqb st.mark going && leb (longest h limit) (length buffer) ≡ false →
-      (pushed h limit st buffer c ≡ ended h limit st buffer) × (buffer_left h limit st buffer c ≡ buffer)
-  push-ends st c z = by_tests st c _ _ _ refl refl refl z
-
-  -- ---- a stream that goes on, by what its held bytes lack
-
-  -- where they lack some, so many are there
-  there : (held : ℕ) → 0 < wanting h limit (take held buffer) → longest h limit ≤ length buffer → held ≤ length buffer
-  there held z b = ⊎_elim (λ l. absurd (omega (arith, none (omega arith)))) (λ l. l) (under (length buffer) held) where
-    none : length buffer ≤ held → wanting h limit (take held buffer) ≡ 0
-    none l = rw (take_all held buffer l) (enough-there h limit buffer b)
-
-  pub lacks_held : (held : ℕ) → longest h limit ≤ length buffer → 0 < wanting h limit (take held buffer) → Holding h limit buffer held
-  lacks_held held b z = record { room = b; within = there held z b; lacks = z }
-
-  -- where they lack none, no calls lead to it
-  last_false : (a b : Bool) → a && (b && false) ≡ false
-  last_false true true = refl
-  last_false true false = refl
-  last_false false b = refl
-
-  pub lacks-none : (held : ℕ) → wanting h limit (take held buffer) ≡ 0 → led h limit (state going held) buffer ≡ false
-  unfolding led
-  lacks-none held z = rw z (last_false (leb (longest h limit) (length buffer)) (leb held (length buffer)))
-
-  -- a state that does not go on is over
-  by_led : {mark held : ℕ} → Led h limit buffer mark held → (mark ≡ going → ⊥) → IsOver mark
-  by_led (goes k) m = absurd (m refl)
-  by_led (told k) m = inl refl
-  by_led (stop2 b) m = inr (inl refl)
-  by_led (stop3 b) m = inr (inr refl)
-
-  pub over-of : (st : Stream) → led h limit st buffer ≡ true → (st.mark ≡ going → ⊥) → IsOver st.mark
-  over-of st e m = by_led (led-known st e) m
-
   -- one that goes on holds an unfinished frame
   by_open : {mark held : ℕ} → Led h limit buffer mark held → mark ≡ going → Holding h limit buffer held
   by_open (goes k) m = k
@@ -251,3 +161,59 @@ module _ (h limit : ℕ) (buffer : List ℕ) where
 
   pub held_of : (st : Stream) → led h limit st buffer ≡ true → st.mark ≡ going → Holding h limit buffer st.held
   held_of st e m = by_open (led-known st e) m
+
+  -- ---- a state in which every call answers the same
+
+  -- what is so of a state that calls lead to
+  pub record Numbers (mark held : ℕ) : Type 0 where
+    pub room : longest h limit ≤ length buffer
+    pub within : held ≤ length buffer
+    pub marks : mark ≤ 3
+    pub goes : mark ≡ going → 0 < wanting h limit (take held buffer)
+    pub told : mark ≡ over → 0 < wanting h limit (take held buffer)
+    pub stopped : 2 ≤ mark → held ≡ 0
+
+  numbers : {mark held : ℕ} → Led h limit buffer mark held → Numbers mark held
+  numbers (goes k) = record { room = k.room; within = k.within; marks = omega arith; goes = λ m. k.lacks; told = λ m. k.lacks; stopped = λ m. absurd (omega arith) }
+  numbers (told k) = record { room = k.room; within = k.within; marks = omega arith; goes = λ m. k.lacks; told = λ m. k.lacks; stopped = λ m. absurd (omega arith) }
+  numbers (stop2 b) = record { room = b; within = omega arith; marks = omega arith; goes = λ m. absurd (omega arith); told = λ m. absurd (omega arith); stopped = λ m. refl }
+  numbers (stop3 b) = record { room = b; within = omega arith; marks = omega arith; goes = λ m. absurd (omega arith); told = λ m. absurd (omega arith); stopped = λ m. refl }
+
+  -- one to which no calls lead, and one that is over
+  pub malformed_stands : (st : Stream) → led h limit st buffer ≡ false → Standing h limit st buffer (refused malformed [])
+  malformed_stands st e = record { pushes = λ c. push-malformed st c e; ends = end-malformed st e }
+
+  pub over_stands :
+      (st : Stream) → led h limit st buffer ≡ true → (st.mark ≡ going → ⊥) → Standing h limit st buffer (answer_again (lacked_by h limit st buffer) st)
+  over_stands st e m = record { pushes = λ c. push-over st c e m; ends = end-over st e m }
+
+  pub no_calls : (st : Stream) → (Numbers st.mark st.held → ⊥) → Standing h limit st buffer (refused malformed [])
+  no_calls st n = by (led h limit st buffer) refl where
+    by : (t : Bool) → led h limit st buffer ≡ t → Standing h limit st buffer (refused malformed [])
+    by false e = malformed_stands st e
+    by true e = absurd (n (numbers (led-known st e)))
+
+  pub is_told :
+      (st : Stream) {a : Answer Said} {w : ℕ} → Holding h limit buffer st.held → st.mark ≡ over → w ≡ lacked_by h limit st buffer →
+      a ≡ answer_again w (state over st.held) → Standing h limit st buffer a
+  is_told st {a} k m e z =
+      let l : Led h limit buffer st.mark st.held = rw m (told k) in
+      let f : a ≡ answer_again (lacked_by h limit st buffer) st = z ∙ rw (e, m) in
+      rw f (over_stands st (led_as l) (λ n. omega (arith, m, n)))
+
+  -- what does not go on, or has too small a buffer, is answered as at its end
+  as_at_end : (st : Stream) (c : List ℕ) {a : Answer Said} → Standing h limit st buffer a → (pushed h limit st buffer c ≡ ended h limit st buffer) × (buffer_left h limit st buffer c ≡ buffer)
+  as_at_end st c s = let m = s.pushes c in (m.0 ∙ sym s.ends, m.1)
+
+  by_tests :
+      (st : Stream) (c : List ℕ) (a b l : Bool) → eqb st.mark going ≡ a → leb (longest h limit) (length buffer) ≡ b → led h limit st buffer ≡ l →
+      a && b ≡ false → (pushed h limit st buffer c ≡ ended h limit st buffer) × (buffer_left h limit st buffer c ≡ buffer)
+  by_tests st c a b false p q e z = as_at_end st c (malformed_stands st e)
+  by_tests st c false b true p q e z = as_at_end st c (over_stands st e (eqb-false st.mark going p))
+  by_tests st c true true true p q e z = let y : ◌≡◌ {A = ℕ} 0 1 = cc in absurd (omega arith)
+  by_tests st c true false true p q e z = absurd (omega (arith, (numbers (led-known st e)).room, leb-false (longest h limit) (length buffer) q))
+
+  pub push-ends :
+      (st : Stream) (c : List ℕ) → eqb st.mark going && leb (longest h limit) (length buffer) ≡ false →
+      (pushed h limit st buffer c ≡ ended h limit st buffer) × (buffer_left h limit st buffer c ≡ buffer)
+  push-ends st c z = by_tests st c _ _ _ refl refl refl z

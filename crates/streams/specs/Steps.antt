@@ -1,22 +1,29 @@
 -- What the private steps of a call are handed, and what the last of them answers; a reader of the calls needs none of it.
 -- Assumes nothing.
-use Rattle.std.specs.Prelude.{ℕ, ◌-◌, ◌≤◌, ◌<◌, ◌≡◌, ◌⊎◌, List, [], ◌∷◌, ◌++◌, length, take}
-use Rattle.wire.specs.Answer.{accepted, refused}
-use Rattle.wire.specs.Refusal.{too_long, wrong_sum}
+use Rattle.std.specs.Prelude.{ℕ, ◌-◌, ◌≤◌, ◌<◌, ◌≡◌, List, [], ◌∷◌, ◌++◌, length, take}
+use Rattle.wire.specs.Answer.{Answer, accepted, refused}
 use Rattle.frame.specs.Framing.{read, longest, frame_refusal, refusal_values}
 use Rattle.frame.specs.Wanting.{wanting}
 use Rattle.frame.specs.declared.Refusal.{Refusal}
-use Rattle.streams.specs.Stream.{going, over, state, in_buffer, more, Told, said_of, next_of}
-
--- S7: the marks of a stream that is over
-abbrev pub IsOver : ℕ → Type 0
-IsOver mark = (mark ≡ over) ⊎ ((mark ≡ too_long) ⊎ (mark ≡ wrong_sum))
+use Rattle.streams.specs.declared.Stream.{Stream}
+use Rattle.streams.specs.Stream.{going, state, Said, in_buffer, more, Told, stay, said_of, next_of, lacked_by, pushed, buffer_left, ended}
 
 -- S8: a buffer that takes the longest frame and begins with held bytes of an unfinished one
 pub record Holding (h limit : ℕ) (buffer : List ℕ) (held : ℕ) : Type 0 where
   pub room : longest h limit ≤ length buffer
   pub within : held ≤ length buffer
   pub lacks : 0 < wanting h limit (take held buffer)
+
+-- S1: a stream that goes on, and how many bytes what it holds lacks
+pub record Going (h limit : ℕ) (st : Stream) (buffer : List ℕ) (missing : ℕ) : Type 0 where
+  pub goes : st.mark ≡ going
+  pub holding : Holding h limit buffer st.held
+  pub wants : missing ≡ lacked_by h limit st buffer
+
+-- S6, S7, S8: a state in which every call answers the same, takes nothing and changes nothing: of a stream that is over, or that no calls lead to
+pub record Standing (h limit : ℕ) (st : Stream) (buffer : List ℕ) (a : Answer Said) : Type 0 where
+  pub pushes : (c : List ℕ) → (pushed h limit st buffer c ≡ stay a st) × (buffer_left h limit st buffer c ≡ buffer)
+  pub ends : ended h limit st buffer ≡ stay a st
 
 -- S4: a cut behind held bytes of the buffer that lacks so many with them, and some
 pub record Lacking (h limit : ℕ) (buffer : List ℕ) (held : ℕ) (c : List ℕ) (missing : ℕ) : Type 0 where

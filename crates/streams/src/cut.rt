@@ -1,14 +1,15 @@
 // A cut of a stream that goes on: read where it is, or behind the bytes of an unfinished frame in the lent buffer.
+// The buffer, and how many bytes of it are held, go side by side: C lends the one and hands the other at each call.
 ghost use Rattle.std.specs.Prelude.{◌≡◌, ◌-◌, ◌≤◌, ◌<◌, [], length, take};
 ghost use Rattle.frame.specs.Framing.{header_width, body_limit, longest};
-ghost use Rattle.streams.specs.Stream.{going, state, read_on, kept_on, pushed, buffer_left};
-ghost use Rattle.streams.specs.Steps.{Lacking, Brought, Judgeable, more_told, stop_told, judged};
+ghost use Rattle.frame.specs.Wanting.{wanting};
+ghost use Rattle.streams.specs.Stream.{read_on, kept_on};
+ghost use Rattle.streams.specs.Steps.{Holding, Lacking, Brought, Judgeable, more_told, stop_told, judged};
 ghost use Rattle.streams.specs.Paper.{means_pushed};
 
-use crate::keep::{keep, lay};
-use crate::state::{lacking, stay};
+use crate::keep::keep;
 use crate::{Pushed, Says, Stream};
-use frame::{Frame, Framed, Refusal};
+use frame::{Frame, Refusal};
 
 // The whole cut is taken, and no frame is whole yet.
 fn more(took: usize, held: usize, missing: usize) -> Pushed
@@ -33,7 +34,7 @@ fn stopped(why: Refusal, took: usize) -> Pushed
         took,
         next: Stream {
             held: 0,
-            mark: frame::number(why),
+            mark: u32::from(why),
         },
     }
 }
@@ -55,19 +56,13 @@ pub(crate) fn begin(buffer: &mut [u8], cut: &[u8]) -> Pushed
     ensures buffer_after { buffer.new ≡ kept_on header_width body_limit [] cut.now buffer.old }
 {
     match frame::read(cut) {
-        Framed::Whole(f) => Pushed {
+        Ok(f) => Pushed {
             says: Says::InCut(f),
             took: f.total,
-            next: Stream {
-                held: 0,
-                mark: Stream::GOING,
-            },
+            next: Stream::new(),
         },
-        Framed::Refused(why) => match why {
-            Refusal::TooShort { missing } => keep_all(buffer, 0, cut, missing),
-            Refusal::TooLong => stopped(why, frame::reach(cut)),
-            Refusal::WrongSum => stopped(why, frame::reach(cut)),
-        },
+        Err(Refusal::TooShort { missing }) => keep_all(buffer, 0, cut, missing),
+        Err(why) => stopped(why, frame::reach(cut)),
     }
 }
 
@@ -77,15 +72,12 @@ fn judge(bytes: &[u8], held: usize) -> Pushed
     ensures { means_pushed result ≡ judged header_width body_limit bytes.now held }
 {
     match frame::read(bytes) {
-        Framed::Whole(f) => Pushed {
+        Ok(f) => Pushed {
             says: Says::InBuffer(f),
             took: bytes.len() - held,
-            next: Stream {
-                held: 0,
-                mark: Stream::GOING,
-            },
+            next: Stream::new(),
         },
-        Framed::Refused(why) => stopped(why, bytes.len() - held),
+        Err(why) => stopped(why, bytes.len() - held),
     }
 }
 
@@ -95,8 +87,8 @@ fn finish(buffer: &mut [u8], held: usize, lacks: usize, cut: &[u8]) -> Pushed
     ensures result_value { means_pushed result ≡ read_on header_width body_limit (take held buffer.old) cut.now }
     ensures buffer_after { buffer.new ≡ kept_on header_width body_limit (take held buffer.old) cut.now buffer.old }
 {
-    keep(buffer, held, &cut[0..lacks]);
-    judge(&buffer[0..held + lacks], held)
+    keep(buffer, held, &cut[..lacks]);
+    judge(&buffer[..held + lacks], held)
 }
 
 // A cut that brings what a header lacks, and what the frame lacks then, or as much of it as there is.
@@ -105,31 +97,27 @@ fn lead(buffer: &mut [u8], held: usize, cut: &[u8]) -> Pushed
     ensures result_value { means_pushed result ≡ read_on header_width body_limit (take held buffer.old) cut.now }
     ensures buffer_after { buffer.new ≡ kept_on header_width body_limit (take held buffer.old) cut.now buffer.old }
 {
-    let n = cut.len();
     let came = Frame::HEADER - held;
-    lay(buffer, held, &cut[0..came]);
+    let (head, tail) = cut.split_at(came);
+    keep(buffer, held, head);
     let front = held + came;
-    let rest = frame::wanting(&buffer[0..front]);
-    if n - came < rest {
-        keep(buffer, front, &cut[came..n]);
-        return more(n, held + n, rest - (n - came));
+    let rest = frame::wanting(&buffer[..front]);
+    if tail.len() < rest {
+        keep(buffer, front, tail);
+        return more(cut.len(), held + cut.len(), rest - tail.len());
     }
-    keep(buffer, front, &cut[came..came + rest]);
-    judge(&buffer[0..front + rest], held)
+    keep(buffer, front, &tail[..rest]);
+    judge(&buffer[..front + rest], held)
 }
 
-// A cut behind held bytes of a stream that goes on; 10 where they are no unfinished frame.
-pub(crate) fn behind(buffer: &mut [u8], held: usize, cut: &[u8]) -> Pushed
-    requires { (longest header_width body_limit ≤ length buffer.old) × (0 < held) }
-    ensures result_value { means_pushed result ≡ pushed header_width body_limit (state going held) buffer.old cut.now }
-    ensures buffer_after { buffer.new ≡ buffer_left header_width body_limit (state going held) buffer.old cut.now }
+// A cut behind held bytes, which lack so many.
+pub(crate) fn behind(buffer: &mut [u8], held: usize, lacks: usize, cut: &[u8]) -> Pushed
+    requires { (Holding header_width body_limit buffer.old held) × (0 < held) × (lacks ≡ wanting header_width body_limit (take held buffer.old)) }
+    ensures result_value { means_pushed result ≡ read_on header_width body_limit (take held buffer.old) cut.now }
+    ensures buffer_after { buffer.new ≡ kept_on header_width body_limit (take held buffer.old) cut.now buffer.old }
 {
-    let lacks = lacking(buffer, held);
     if cut.len() < lacks {
         return keep_all(buffer, held, cut, lacks - cut.len());
-    }
-    if lacks == 0 {
-        return stay(Says::Malformed, held, Stream::GOING);
     }
     if Frame::HEADER <= held {
         return finish(buffer, held, lacks, cut);

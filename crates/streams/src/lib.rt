@@ -7,7 +7,6 @@ ghost use Rattle.streams.specs.Stream.{new_stream, pushed, buffer_left, ended};
 ghost use Rattle.streams.specs.Paper.{means_pushed};
 
 use crate::cut::{begin, behind};
-use crate::state::{again, lacking, led, stay};
 use frame::{Frame, Refusal};
 
 mod cut;
@@ -15,7 +14,7 @@ mod keep;
 mod state;
 
 // How many bytes of an unfinished frame the lent buffer begins with, and how the stream stands: it goes on, it has ended, or it
-// stopped at a refusal, whose number the mark is.
+// stopped at a refusal, whose number the mark is. The mark stays a number: a struct of the C interface.
 #[repr(C)]
 #[derive(Clone, Copy)]
 pub struct Stream {
@@ -23,7 +22,7 @@ pub struct Stream {
     pub mark: u32,
 }
 
-// What a call finds.
+// What a call finds. One enum and no Result: the next state goes with each of the six, so that no caller hands a refusal on by `?`.
 #[derive(Clone, Copy)]
 pub enum Says {
     // A frame, with which the cut begins.
@@ -67,30 +66,27 @@ impl Stream {
         ensures result_value { means_pushed result ≡ pushed header_width body_limit self buffer.old cut.now }
         ensures buffer_after { buffer.new ≡ buffer_left header_width body_limit self buffer.old cut.now }
     {
-        let held = self.held;
-        let mark = self.mark;
-        if (mark == Stream::GOING) & (held == 0) & (Frame::LIMIT <= buffer.len()) {
+        // What comes most often is tested first.
+        if (self.mark == Stream::GOING) & (self.held == 0) & (Frame::LIMIT <= buffer.len()) {
             return begin(buffer, cut);
         }
-        if (mark == Stream::GOING) & (Frame::LIMIT <= buffer.len()) {
-            return behind(buffer, held, cut);
+        match self.lacks(buffer) {
+            Ok(missing) => behind(buffer, self.held, missing, cut),
+            Err(says) => self.stay(says),
         }
-        self.end(buffer)
     }
 
     // The stream has ended.
     pub fn end(self, buffer: &[u8]) -> Pushed
         ensures { means_pushed result ≡ ended header_width body_limit self buffer.now }
     {
-        let held = self.held;
-        let mark = self.mark;
-        if !led(buffer, held, mark) {
-            return stay(Says::Malformed, held, mark);
+        match self.lacks(buffer) {
+            Ok(missing) => Stream {
+                mark: Stream::ENDED,
+                ..self
+            }
+            .stay(self.at_end(missing)),
+            Err(says) => self.stay(says),
         }
-        let missing = lacking(buffer, held);
-        if mark != Stream::GOING {
-            return stay(again(missing, held, mark), held, mark);
-        }
-        stay(again(missing, held, Stream::ENDED), held, Stream::ENDED)
     }
 }

@@ -14,15 +14,11 @@ pub const LINE_ROOM: usize = 64;
 pub fn word(out: &mut [u8], at: usize, bytes: &[u8]) -> usize
     ensures { (out.new ≡ put_at out.old at bytes.now) × (result ≡ offset_behind out.old at bytes.now) }
 {
-    let n = bytes.len();
     wire::copy(out, at, bytes);
-    if out.len() < n {
-        return at;
+    match at.checked_add(bytes.len()) {
+        Some(behind) if behind <= out.len() => behind,
+        _ => at,
     }
-    if out.len() - n < at {
-        return at;
-    }
-    at + n
 }
 
 // A number in decimal digits at an offset; answers as word does.
@@ -30,6 +26,8 @@ pub fn decimal(out: &mut [u8], at: usize, v: u64) -> usize
     ensures { (out.new ≡ put_at out.old at (decimal_of v)) × (result ≡ offset_behind out.old at (decimal_of v)) }
 {
     let mut digits = [0u8; 20];
+    // Stays a `while`: tried as a `for` over the places, which LLVM unrolls, and over as many as ilog10 says: the listing took a tenth
+    // longer.
     let mut i: usize = 20;
     let mut rest = v;
     while 9 < rest {
@@ -43,6 +41,7 @@ pub fn decimal(out: &mut [u8], at: usize, v: u64) -> usize
 }
 
 // A number and some bytes behind it; answers the offset behind both. What doesn't fit is left out.
+// Output and offset stay two parameters: the promises of word, decimal, frame_line and last_line speak of both.
 fn followed(out: &mut [u8], at: usize, v: u64, bytes: &[u8]) -> usize
     ensures { (out.new ≡ put_each out.old at (decimal_of v ∷ bytes.now ∷ [])) × (result ≡ offset_behind_each out.old at (decimal_of v ∷ bytes.now ∷ [])) }
 {
@@ -50,17 +49,18 @@ fn followed(out: &mut [u8], at: usize, v: u64, bytes: &[u8]) -> usize
     word(out, behind, bytes)
 }
 
-// A frame's line of the listing, piece by piece; answers the offset behind it. A piece that doesn't fit is left out.
+// A frame's line of the listing, with its type's number, piece by piece; answers the offset behind it. A piece that doesn't fit is left out.
 pub fn frame_line(out: &mut [u8], at: usize, offset: u64, kind: u32, len: usize) -> usize
     ensures { (out.new ≡ put_each out.old at (frame_line offset kind len)) × (result ≡ offset_behind_each out.old at (frame_line offset kind len)) }
 {
     let a = followed(out, at, offset, b" ");
-    let b = followed(out, a, kind as u64, b" ");
+    let b = followed(out, a, u64::from(kind), b" ");
     followed(out, b, len as u64, b"\n")
 }
 
 // The listing's last line, for a refusal's number, 0 where there is none, and how many bytes are missing, which stands behind 1
 // alone; answers as frame_line does.
+// The refusal stays a number: last_line of specs/Text, which this call promises, is over the number.
 pub fn last_line(
     out: &mut [u8],
     at: usize,
@@ -71,14 +71,19 @@ pub fn last_line(
 ) -> usize
     ensures { (out.new ≡ put_each out.old at (last_line offset frames refused missing)) × (result ≡ offset_behind_each out.old at (last_line offset frames refused missing)) }
 {
-    if refused == 0 {
-        let a = followed(out, at, offset, b" end ");
-        return followed(out, a, frames, b"\n");
+    match refused {
+        answers::PLAIN => {
+            let a = followed(out, at, offset, b" end ");
+            followed(out, a, frames, b"\n")
+        }
+        answers::TOO_SHORT => {
+            let a = followed(out, at, offset, b" refused ");
+            let b = followed(out, a, u64::from(refused), b" ");
+            followed(out, b, missing as u64, b"\n")
+        }
+        _ => {
+            let a = followed(out, at, offset, b" refused ");
+            followed(out, a, u64::from(refused), b"\n")
+        }
     }
-    let a = followed(out, at, offset, b" refused ");
-    if refused == answers::TOO_SHORT {
-        let b = followed(out, a, refused as u64, b" ");
-        return followed(out, b, missing as u64, b"\n");
-    }
-    followed(out, a, refused as u64, b"\n")
 }

@@ -14,7 +14,8 @@ use Rattle.gaps.specs.Gaps.{run, canon}
 use Rattle.gaps.specs.Limits.{run_limit, most_number}
 use Rattle.gaps.proofs.Numbers.{and_split}
 use Rattle.tracker.specs.declared.Tracker.{Tracker}
-use Rattle.seats.specs.declared.Seat.{Seat}
+use Rattle.seats.specs.declared.Malformed.{Malformed}
+use Rattle.std.specs.Prelude.{Option, Some, None, Ok, Err}
 use Rattle.seats.specs.Places.{span}
 use Rattle.seats.specs.Arrays.{Arrays}
 use Rattle.seats.specs.Seat.{seat_of}
@@ -24,7 +25,7 @@ use Rattle.tracker.specs.Rules.{well_formed}
 use Rattle.tracker.specs.Arrived.{place}
 use Rattle.tracker.specs.Inside.{SoundIn}
 use Rattle.tracker.specs.FirstRun.{Lost, lost, nothing_missing, foremost, first_run}
-use Rattle.tracker.proofs.Seated.{well_row, seat_sound, seat_place}
+use Rattle.tracker.proofs.Seated.{well_row, ill_seated, well_seated, none_seated, some_seated}
 
 -- ---- the refusals in their order
 
@@ -43,22 +44,20 @@ module _ (t : Tracker) (k : ℕ) where
 
 -- by the seat
 
-module _ (a : Arrays) (k : ℕ) (s : Seat) (q : s ≡ seat_of k a) where
-  pub seat_10 : s.sound ≡ false → first_run (made a) k ≡ refused malformed []
-  seat_10 p = first_10 (made a) k (seat_sound a k s q ∙ p)
+module _ (a : Arrays) (k : ℕ) where
+  pub seat_10 : (e : Malformed) → Err e ≡ seat_of k a → first_run (made a) k ≡ refused malformed []
+  seat_10 e q = first_10 (made a) k (ill_seated a k e q)
 
-  module _ (p : s.sound ≡ true) where
-    well : well_formed (made a) ≡ true
-    well = seat_sound a k s q ∙ p
-
-    pub seat_7 : a.count ≤ s.at → first_run (made a) k ≡ refused no_such_channel []
-    seat_7 h = first_7 (made a) k well (rw (seat_place a k s q well) h)
+  module _ (o : Option ℕ) (q : Ok o ≡ seat_of k a) where
+    pub seat_7 : o ≡ None → first_run (made a) k ≡ refused no_such_channel []
+    seat_7 h = first_7 (made a) k (well_seated a k o q) (none_seated a k o q h)
 
     -- the channel is there, within the places of channels
-    pub seat_at : s.at < a.count → (s.at < 8) × (first_run (made a) k ≡ accepted (foremost (channel_at (made a) s.at).runs))
-    seat_at h =
-        let d = seat_place a k s q well in
-        ((well_row (made a) well s.at h).place, rw d at (first-at (made a) k well (rw d h)))
+    pub seat_at : (i : ℕ) → o ≡ Some i → (i < 8) × (first_run (made a) k ≡ accepted (foremost (channel_at (made a) i).runs))
+    seat_at i h =
+        let d = some_seated a k o q i h in
+        let w = well_seated a k o q in
+        ((well_row (made a) w i d.1).place, rw d.0 at (first-at (made a) k w (rw d.0 d.1)))
 
 -- ---- of the n runs from a place on
 

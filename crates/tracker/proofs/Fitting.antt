@@ -23,7 +23,11 @@ use Rattle.gaps.specs.declared.Run.{Run}
 use Rattle.gaps.specs.Limits.{most_number}
 use Rattle.tracker.specs.declared.Tracker.{Tracker}
 use Rattle.tracker.specs.FirstRun.{Lost, lost, first_run}
-use Rattle.tracker.specs.Request.{asked, spaces, numbers_for, resend_of, request_length, room_for_request, request_judged, written, answer_of, output_asked, request, request_leaves}
+use Rattle.tracker.specs.Request.{asked, spaces, numbers_for, resend_of, request_length, room_for_request, request_judged, written, answer_of, output_asked, request, request_leaves, means_requested}
+use Rattle.tracker.specs.Inside.{lost_of}
+use Rattle.tracker.specs.declared.RequestRefusal.{RequestRefusal}
+use Rattle.tracker.specs.declared.RequestRefusal.TheVariants.{Malformed, NoSuchChannel, OutputShort}
+use Rattle.std.specs.Prelude.{Err}
 
 -- a 390094 frame has 44 + 12 bytes
 pub request-length : request_length ≡ 56
@@ -109,3 +113,17 @@ module _ (t : Tracker) (k : ℕ) (out : List ℕ) {a : Answer Lost} (e : first_r
   pub leaves_by : request_leaves t k out ≡ output_asked (and_then a (room_for_request (length out))) k out
   unfolding request_leaves request_judged
   leaves_by = rw e
+
+-- ---- a refusal
+
+pub refused-said : (why : RequestRefusal) (f : Lost → Answer Lost) → means_requested (Err why) ≡ answer_of (and_then (lost_of (Err why)) f)
+unfolding and_then
+refused-said Malformed f = refl
+refused-said NoSuchChannel f = refl
+refused-said OutputShort f = refl
+
+pub refused-left : (why : RequestRefusal) (f : Lost → Answer Lost) (k : ℕ) (out : List ℕ) → out ≡ output_asked (and_then (lost_of (Err why)) f) k out
+unfolding and_then
+refused-left Malformed f k out = refl
+refused-left NoSuchChannel f k out = refl
+refused-left OutputShort f k out = refl

@@ -1,5 +1,5 @@
 -- What the search of a row within the rules finds.
-use Prim.Native.Nat.{ℕ, zero, suc, ◌+◌, ◌*◌, ◌-◌, ◌≤◌, ◌<◌}
+use Prim.Native.Nat.{ℕ, zero, suc, ◌+◌, ◌*◌, ◌≤◌, ◌<◌}
 use native.Mathlib.Omega.{arith}
 use mathlib.Core.Path.{◌≡◌, refl}
 use mathlib.Core.Logic.{⊎_elim}
@@ -13,6 +13,7 @@ use Rattle.gaps.specs.Gaps.{run, has, canon}
 use Rattle.gaps.proofs.Numbers.{lt_or_le}
 use Rattle.gaps.proofs.Sets.{canon_yes, yes_canon, low, has_in}
 use Rattle.seats.specs.Places.{span}
+use Rattle.std.specs.Prelude.{Option}
 use Rattle.rows.specs.declared.Held.{Held}
 use Rattle.rows.specs.Held.{left_at, sought, search}
 use Rattle.rows.proofs.Row.{yes_there}
@@ -41,7 +42,7 @@ held_at f l b (suc count) (suc j) n m p q =
 
 module _ (f l : List ℕ) (b count n : ℕ) where
   -- the first run ends below n
-  later : (s : Held) → get_or l b 0 < n → Finds f l (suc b) count n s → Finds f l b (suc count) n s
+  later : (s : Option Held) → get_or l b 0 < n → Finds f l (suc b) count n s → Finds f l b (suc count) n s
   unfolding has span
   later s h (finds_no a) = finds_no (rw (lt-leb n (get_or l b 0) h, and-false (leb (get_or f b 0) n), a))
   later s h (finds_run j m p q) =
@@ -84,5 +85,5 @@ finds_in f l lo h b (suc count) n o =
 
 -- the search of a row within the rules
 pub search_finds : (f l : List ℕ) (i count lo h n : ℕ) → i < 8 → count ≤ 32 → canon lo h (span f l (i * 32) count) ≡ true →
-    (s : Held) → s ≡ search f l i count n → Finds f l (i * 32) count n s
+    (s : Option Held) → s ≡ search f l i count n → Finds f l (i * 32) count n s
 search_finds f l i count lo h n p q o s e = rw (e, held_row f l i count n (yes_there i count p q)) (finds_in f l lo h (i * 32) count n o)

@@ -1,7 +1,7 @@
 -- A channel's judgement in the tracker, in each of the code's cases.
 use Prim.Native.Nat.{ℕ, zero, suc, ◌+◌, ◌*◌, ◌-◌, ◌≤◌, ◌<◌, zero-le}
 use native.Mathlib.Omega.{arith}
-use mathlib.Core.Path.{◌≡◌, refl, ap, sym, ◌∙◌}
+use mathlib.Core.Path.{◌≡◌, refl, ap, sym, ◌∙◌, subst}
 use mathlib.Core.Logic.{inl, inr}
 use mathlib.Core.List.{List, [], ◌∷◌, ◌++◌}
 use mathlib.Core.Bool.{Bool, true, false, cond, ◌||◌}
@@ -24,24 +24,23 @@ use Rattle.gaps.proofs.Alone.{judged_low, judged_early}
 use Rattle.tracker.specs.declared.Tracker.{Tracker}
 use Rattle.rows.specs.declared.Gap.{Gap}
 use Rattle.tracker.specs.Places.{made, mark, channel_at, put}
-use Rattle.seats.specs.declared.Seat.{Seat}
+use Rattle.seats.specs.declared.Malformed as seats
 use Rattle.seats.specs.Arrays.{Arrays}
 use Rattle.seats.specs.Seat.{seat_of}
-use Rattle.tracker.specs.declared.Verdict.TheVariants.{Late, NoSuchChannel, NumberTooLow, TableFull, Malformed}
-use Rattle.tracker.specs.declared.Verdict.{Verdict}
-use Rattle.tracker.specs.declared.Judged.{Judged}
-use Rattle.tracker.specs.declared.Judged.TheVariants.{Refused, At}
-use Rattle.tracker.specs.Rules.{well_formed}
+use Rattle.tracker.specs.declared.News.TheVariants.{Late, Duplicate}
+use Rattle.tracker.specs.declared.Refusal.{Refusal}
+use Rattle.tracker.specs.declared.Refusal.TheVariants.{NoSuchChannel, NumberTooLow, TableFull, Malformed}
+use Rattle.std.specs.Prelude.{Option, Some, None, Result, Ok, Err}
 use Rattle.tracker.specs.Arrived.{Outcome, on, place, settled, arrive, answered}
 use Rattle.rows.specs.declared.Held.{Held}
-use Rattle.rows.specs.declared.Held.TheVariants.{No, AtEnd, Alone, Inside}
+use Rattle.rows.specs.declared.Held.TheVariants.{AtEnd, Alone, Inside}
 use Rattle.rows.specs.Held.{left_at, search}
-use Rattle.tracker.specs.Inside.{SoundIn, Judges, stepped, stored_or_full, Changeable, relaid, replaced, shut, cleft, late_as}
+use Rattle.tracker.specs.Inside.{SoundIn, Judges, stepped, stored_or_full, Changeable, replaced, shut, cleft, late_as}
 use Rattle.tracker.proofs.Told.{Room, Finds, finds_no, finds_run}
 use Rattle.tracker.proofs.Row.{span-length, span-at}
 use Rattle.tracker.proofs.Hold.{held_at, search_finds}
 use Rattle.gaps.proofs.Signed.{natural-one, natural_pos}
-use Rattle.tracker.proofs.Seated.{well_row, arrived_10, arrived_7, arrived_at, seat_sound, seat_place}
+use Rattle.tracker.proofs.Seated.{well_row, arrived_10, arrived_7, arrived_at, ill_seated, well_seated, none_seated, some_seated}
 use Rattle.tracker.proofs.Put.{RowOf, mended, mark-same, put-pushed, put-set, put-runs, put_same, kept_row}
 use Rattle.tracker.proofs.Shift.{parts_length, put-shut, put-cleft}
 
@@ -270,14 +269,15 @@ module _ (t : Tracker) (i n j : ℕ) (w : RowOf t i) (a : i < 8) (m : j < get_or
 
 -- ---- a number that is not above the highest, by what the search found
 
--- there is a run to change, and this is the tick's answer and the next tracker
-abbrev pub Behind : Tracker → ℕ → ℕ → Held → Type 0
-Behind t i n s = Changeable s (get_or t.counts i 0) × (stepped i (tick (pos n)) t ≡ late_as s i n t)
+-- there is no run with it, or one to change; and this is the tick's answer and the next tracker
+abbrev pub Behind : Tracker → ℕ → ℕ → Option Held → Type 0
+Behind t i n None = stepped i (tick (pos n)) t ≡ answered (Ok Duplicate) t
+Behind t i n (Some s) = Changeable s (get_or t.counts i 0) × (stepped i (tick (pos n)) t ≡ late_as s i n t)
 
-behind : (t : Tracker) (i n : ℕ) → RowOf t i → i < 8 → 1 ≤ n → get_or t.from i 0 ≤ n → n ≤ get_or t.highest i 0 → (s : Held) →
+behind : (t : Tracker) (i n : ℕ) → RowOf t i → i < 8 → 1 ≤ n → get_or t.from i 0 ≤ n → n ≤ get_or t.highest i 0 → (s : Option Held) →
     Finds t.first t.last (i * 32) (get_or t.counts i 0) n s → Behind t i n s
 unfolding left_at
-behind t i n w a p k h s (finds_no e) = (tt, tick_again t i w n p k h e)
+behind t i n w a p k h s (finds_no e) = tick_again t i w n p k h e
 behind t i n w a p low h s (finds_run j m f g) =
     go (ltb n r.first) refl (eqb n r.first) refl (ltb n r.last) refl (eqb n r.last) refl
   where
@@ -291,12 +291,12 @@ behind t i n w a p low h s (finds_run j m f g) =
     in_row = omega (arith, w.room)
 
     full : (b : Bool) → eqb (get_or t.counts i 0) 32 ≡ b → cut r n ≡ run r.first (n - 1) ∷ run (n + 1) r.last ∷ [] →
-        stepped i (tick (pos n)) t ≡ cond b (answered TableFull t) (answered Late (cleft t i (i * 32 + j) n))
+        stepped i (tick (pos n)) t ≡ cond b (answered (Err TableFull) t) (answered (Ok Late) (cleft t i (i * 32 + j) n))
     full true e k = late_by (tick-full t i n j w a m f g k (eqb-true (get_or t.counts i 0) 32 e))
     full false e k = late_by (tick-cleft t i n j w a m f g k (omega (arith, w.room, eqb-false (get_or t.counts i 0) 32 e)))
 
     go : (x : Bool) → ltb n r.first ≡ x → (y : Bool) → eqb n r.first ≡ y → (z : Bool) → ltb n r.last ≡ z → (v : Bool) → eqb n r.last ≡ v →
-        Behind t i n (cond x No (cond y (cond z (AtEnd (i * 32 + j) (n + 1) r.last) (Alone (i * 32 + j))) (cond v (AtEnd (i * 32 + j) r.first (n - 1)) (Inside (i * 32 + j)))))
+        Behind t i n (cond x None (cond y (cond z (Some (AtEnd (i * 32 + j) (n + 1) r.last)) (Some (Alone (i * 32 + j)))) (cond v (Some (AtEnd (i * 32 + j) r.first (n - 1))) (Some (Inside (i * 32 + j))))))
     go true b y c z d v e = absurd (omega (arith, ltb-true n r.first b))
     go false b true c true d v e = (in_row, late_by (tick-end t i n j (run (n + 1) r.last) w m f g (cut_front r n (eqb-true n r.first c) (ltb-true n r.last d))))
     go false b true c false d v e = (omega arith, late_by (tick-shut t i n j w a m f g (cut-whole r n (eqb-true n r.first c) (omega (arith, ltb-false n r.last d)))))
@@ -305,53 +305,54 @@ behind t i n w a p low h s (finds_run j m f g) =
         (in_row, full (eqb (get_or t.counts i 0) 32) refl (cut_mid r n (omega (arith, eqb-false n r.first c)) (omega (arith, eqb-false n r.last e))))
 
 -- by what the search answered
-pub sought : (t : Tracker) (i n : ℕ) → SoundIn t i → 1 ≤ n → get_or t.from i 0 ≤ n → n ≤ get_or t.highest i 0 → (s : Held) → s ≡ search t.first t.last i (get_or t.counts i 0) n → Behind t i n s
+pub sought : (t : Tracker) (i n : ℕ) → SoundIn t i → 1 ≤ n → get_or t.from i 0 ≤ n → n ≤ get_or t.highest i 0 → (s : Option Held) → s ≡ search t.first t.last i (get_or t.counts i 0) n → Behind t i n s
 sought t i n k p b h s e =
     let w = kept_row k in
     behind t i n w k.place p b h s (search_finds t.first t.last i (get_or t.counts i 0) w.from (get_or t.highest i 0) n k.place w.room w.order s e)
 
 -- what was found is this
-pub told_fits : (count : ℕ) {x s : Held} → s ≡ x → Changeable s count → Changeable x count
-told_fits count {x} {s} e w = rw e at w
+pub found_none : (t : Tracker) (i n : ℕ) {s : Option Held} → s ≡ None → Behind t i n s → Behind t i n None
+found_none t i n {s} e w = rw e at w
 
--- runs laid anew
-pub laid_as : (v : Verdict) (t : Tracker) {c c' f f' l l' : List ℕ} → c ≡ c' → f ≡ f' → l ≡ l' → answered v (relaid t c f l) ≡ answered v (relaid t c' f' l')
-laid_as v t p q r = λ m. answered v (relaid t (p m) (q m) (r m))
+pub found_some : (t : Tracker) (i n : ℕ) {s : Option Held} {x : Held} → s ≡ Some x → Behind t i n s → Behind t i n (Some x)
+found_some t i n {s} {x} e w = rw e at w
 
 -- ---- an arrival's refusals by its channel's seat
 
-module _ (a : Arrays) (k : ℕ) (s : Seat) (q : s ≡ seat_of k a) (low : Bool) where
-  pub judges_10 : s.sound ≡ false → Judges (made a) k low (Refused Malformed)
-  judges_10 p = λ e z. arrived_10 (made a) k e (seat_sound a k s q ∙ p)
+module _ (a : Arrays) (k : ℕ) (low : Bool) where
+  pub judges_10 : (e : seats.Malformed) → Err e ≡ seat_of k a → Judges (made a) k low (Err Malformed)
+  judges_10 m q = λ e z. arrived_10 (made a) k e (ill_seated a k m q)
 
-  module _ (p : s.sound ≡ true) where
-    well : well_formed (made a) ≡ true
-    well = seat_sound a k s q ∙ p
+  module _ (o : Option ℕ) (q : Ok o ≡ seat_of k a) where
+    pub judges_7 : o ≡ None → Judges (made a) k low (Err NoSuchChannel)
+    judges_7 h = λ e z. arrived_7 (made a) k e (well_seated a k o q) (none_seated a k o q h)
 
-    pub judges_7 : a.count ≤ s.at → Judges (made a) k low (Refused NoSuchChannel)
-    judges_7 h = λ e z. arrived_7 (made a) k e well (rw (seat_place a k s q well) h)
-
-    pub judges_8 : s.at < a.count → low ≡ true → Judges (made a) k low (Refused NumberTooLow)
-    judges_8 h l =
+    pub judges_8 : (i : ℕ) → o ≡ Some i → low ≡ true → Judges (made a) k low (Err NumberTooLow)
+    judges_8 i h l =
         let t = made a in
-        λ e z. arrived_at t k e well (rw (seat_place a k s q well) h) ∙ settled_low t (place t k) (channel_at t (place t k)) e (z ∙ l)
+        let d = some_seated a k o q i h in
+        λ e z. arrived_at t k e (well_seated a k o q) (rw d.0 d.1) ∙ settled_low t (place t k) (channel_at t (place t k)) e (z ∙ l)
 
-    pub judges_at : s.at < a.count → low ≡ false → Judges (made a) k low (At s.at)
-    judges_at h l =
-        let d = seat_place a k s q well in
-        (l, well_row (made a) well s.at h, λ e. (rw d at (arrived_at (made a) k e well (rw d h))))
+    pub judges_at : (i : ℕ) → o ≡ Some i → low ≡ false → Judges (made a) k low (Ok i)
+    judges_at i h l =
+        let d = some_seated a k o q i h in
+        let w = well_seated a k o q in
+        (l, well_row (made a) w i d.1, λ e. (rw d.0 at (arrived_at (made a) k e w (rw d.0 d.1))))
 
 -- what the judge's answer tells
-module _ (t : Tracker) (k : ℕ) (low : Bool) where
-  pub told_refused : (v : Verdict) (r : Judged) → Judges t k low r → r ≡ Refused v → Judges t k low (Refused v)
-  told_refused v r w e = rw e at w
+module _ (a b : Arrays) (k : ℕ) (low : Bool) (r : Result ℕ Refusal) (p : a ≡ b) (w : Judges (made a) k low r) where
+  same_judged : Judges (made b) k low r
+  same_judged = subst (λ (c : Arrays). Judges (made c) k low r) p w
 
-  pub told_at : (i : ℕ) (r : Judged) → Judges t k low r → r ≡ At i → Judges t k low (At i)
-  told_at i r w e = rw e at w
+  pub told_refused : (v : Refusal) → r ≡ Err v → Judges (made b) k low (Err v)
+  told_refused v e = subst (λ (x : Result ℕ Refusal). Judges (made b) k low x) e same_judged
+
+  pub told_at : (i : ℕ) → r ≡ Ok i → Judges (made b) k low (Ok i)
+  told_at i e = subst (λ (x : Result ℕ Refusal). Judges (made b) k low x) e same_judged
 
 -- ---- from a place to its judgement, for numbers as the code holds them
 
-module _ (t : Tracker) (k : ℕ) (low : Bool) (i : ℕ) (w : Judges t k low (At i)) where
+module _ (t : Tracker) (k : ℕ) (low : Bool) (i : ℕ) (w : Judges t k low (Ok i)) where
   pub tick_seat : (z : ℤ) (n : ℕ) → n ≡ natural z → 1 ≤ n → arrive t (on k (tick z)) ≡ stepped i (tick (pos n)) t
   tick_seat z n e p =
       let d : z ≡ pos n = natural-one z (rw e at p) ∙ ap pos (sym e) in

@@ -1,6 +1,9 @@
 -- The places that first numbers fill, each less by the same.
-use Prim.Native.Nat.{ℕ, zero, suc, ◌+◌, ◌-◌, ◌≤◌, ◌<◌}
+use Prim.Native.Nat.{ℕ, zero, suc, ◌+◌, ◌-◌, ◌≤◌, ◌<◌, min}
+use native.Mathlib.Nat.{min-eq_left, min-eq_right, le_of_lt}
 use native.Mathlib.Omega.{arith}
+use mathlib.Core.Logic.{⊎_elim}
+use Rattle.gaps.proofs.Numbers.{lt_or_le}
 use mathlib.Core.Path.{◌≡◌, refl, ap, ◌∙◌}
 use mathlib.Core.List.{List, [], ◌∷◌, map}
 use lib.IntN.{ℤ, pos}
@@ -44,3 +47,7 @@ module _ (by : ℕ) (fs : List ℤ) (i : ℕ) where
 
   pub lowered-eight : i ≡ 8 → i ≤ length fs → filled (less by fs) i ≡ lowered by (take 8 fs)
   lowered-eight e h = filled-eight (less by fs) i e (omega (arith, less_length by fs)) ∙ rw (less_take by fs 8)
+
+  -- as many as there are, and no more than there are places
+  pub lowered_end : i ≡ min (length fs) 8 → filled (less by fs) i ≡ lowered by (take 8 fs)
+  lowered_end e = ⊎_elim (λ h. lowered_all (e ∙ min-eq_left (le_of_lt h)) (omega (arith, e, min-eq_left (le_of_lt h)))) (λ h. lowered-eight (e ∙ min-eq_right h) (omega (arith, e, min-eq_right h))) (lt_or_le (length fs) 8)

@@ -3,7 +3,8 @@ use Prim.Native.Nat.{ℕ, zero, suc, ◌+◌, ◌*◌, ◌-◌, ◌≤◌, ◌<�
 use native.Mathlib.Omega.{arith}
 use mathlib.Core.Path.{◌≡◌, refl, ap, ◌∙◌}
 use mathlib.Core.List.{List, [], ◌∷◌, ◌++◌, map, map-append}
-use mathlib.Core.Bool.{Bool, true}
+use mathlib.Core.Bool.{Bool, true, false}
+use Rattle.std.specs.Int.{from_bool}
 use lib.Dec.{leb, eqb}
 use lib.ListN.{length, take, get_or, set, replicate, length-append, length-set}
 use lib.Seq.{set-get_or}
@@ -14,6 +15,8 @@ use Rattle.gaps.specs.Limits.{most_number}
 use Rattle.gaps.specs.Channel.{changed}
 use Rattle.gaps.specs.Built.{firsts, lasts, padded}
 use Rattle.gaps.proofs.Numbers.{and_split}
+use Rattle.seats.specs.declared.FieldsMut.{FieldsMut}
+use Rattle.seats.specs.Arrays.{Lent, arrays, held_mut}
 use Rattle.tracker.specs.declared.Tracker.{Tracker}
 use Rattle.seats.specs.Places.{span}
 use Rattle.tracker.specs.Places.{mark, channel_at, put}
@@ -173,3 +176,15 @@ module _ (t : Tracker) (i : ℕ) (w : RowOf t i) where
 
   pub put_same : put t i (channel_at t i) ≡ t
   put_same = put-runs (get_or t.highest i 0) (channel_at t i).ended ∙ rw (set-get_or t.highest i 0, mark-same t.ended i w.mark)
+
+-- a mark as the library turns it into a number
+pub byte : (e : Bool) → from_bool e ≡ mark e
+byte true = refl
+byte false = refl
+
+-- ---- lent fields
+
+-- a tracker with the channels that its fields had, which are the same
+pub kept_channels : (n : ℕ) (numbers from : Lent) (g : FieldsMut) → (g.count ≡ n) × (g.numbers ≡ numbers) × (g.from ≡ from) →
+    arrays n numbers.now from.now g.highest.now g.ended.now g.counts.now g.first.now g.last.now ≡ held_mut g
+kept_channels n numbers from g e = rw (← e.0, ← e.1, ← e.2)

@@ -3,7 +3,8 @@ use Prim.Native.Nat.{ℕ, ◌+◌, ◌*◌, ◌-◌, ◌≤◌, ◌<◌}
 use native.Mathlib.Omega.{arith}
 use mathlib.Core.Path.{◌≡◌, refl, ap, ◌∙◌}
 use mathlib.Core.List.{List, [], ◌∷◌, ◌++◌}
-use mathlib.Core.Bool.{Bool, true, false, cond, false≢true, true≢false}
+use mathlib.Core.Bool.{Bool, true, false, cond}
+use Rattle.std.specs.Prelude.{Option}
 use lib.ListN.{get_or, length-append}
 use lib.Dec.{ltb, eqb}
 use borrow.Author.Tests.{le-leb, ltb-true, ltb-false, eqb-true, eqb-false}
@@ -14,27 +15,20 @@ use Rattle.rows.specs.declared.Gap.{Gap}
 use Rattle.rows.specs.Gap.{full, placed, room}
 use Rattle.rows.proofs.Row.{span_last, yes_there}
 use Rattle.seats.specs.Places.{span}
-use Rattle.tracker.proofs.Told.{Room, Grows}
+use Rattle.tracker.proofs.Told.{Grows}
 use Rattle.tracker.proofs.Row.{span-length, span-take}
 
-abbrev gap : Bool → ℕ → ℕ → Gap
-gap full at first = record { full = full; at = at; first = first }
-
-fits : (f l : List ℕ) (b held h at x : ℕ) → Room f l b held h (gap false at x) → Grows f l b held h (gap false at x)
-fits f l b held h at x r = record { over = λ e. absurd (false≢true e); room = λ e. r }
-
 module _ (f l : List ℕ) (b held h : ℕ) where
-  pub room-first : held ≡ 0 → Grows f l b held h (gap false 0 (h + 1))
+  pub room-first : held ≡ 0 → Grows f l b held h (placed 0 (h + 1))
   unfolding span grow
-  room-first e = fits f l b held h 0 (h + 1) (record { within = omega arith; low = omega arith; high = omega arith; grown = λ m. rw e })
+  room-first e = (record { within = omega arith; low = omega arith; high = omega arith; grown = λ m. rw e })
 
   module _ (p : 1 ≤ held) where
     span-end : span f l b held ≡ span f l b (held - 1) ++ (run (get_or f (b + (held - 1)) 0) (get_or l (b + (held - 1)) 0) ∷ [])
     span-end = let e : held ≡ held - 1 + 1 = omega arith in ap (span f l b) e ∙ span_last f l b (held - 1)
 
-    pub room_joined : held ≤ 32 → get_or l (b + (held - 1)) 0 ≡ h → Grows f l b held h (gap false (held - 1) (get_or f (b + (held - 1)) 0))
+    pub room_joined : held ≤ 32 → get_or l (b + (held - 1)) 0 ≡ h → Grows f l b held h (placed (held - 1) (get_or f (b + (held - 1)) 0))
     room_joined s e =
-        fits f l b held h (held - 1) (get_or f (b + (held - 1)) 0)
         (record {
           within = omega arith;
           low = omega arith;
@@ -45,20 +39,15 @@ module _ (f l : List ℕ) (b held h : ℕ) where
     apart : (get_or l (b + (held - 1)) 0 ≡ h → ⊥) → (m : ℕ) → grow (span f l b held) h m ≡ span f l b held ++ (run (h + 1) m ∷ [])
     apart e m = rw span-end (grow-apart (span f l b (held - 1)) (run (get_or f (b + (held - 1)) 0) (get_or l (b + (held - 1)) 0)) h m e)
 
-    pub room-none : held ≡ 32 → (get_or l (b + (held - 1)) 0 ≡ h → ⊥) → Grows f l b held h (gap true 0 0)
-    room-none s e =
-        record {
-          over = λ q m. rw (apart e m, length-append (span f l b held) (run (h + 1) m ∷ []), span-length f l b held) (omega arith);
-          room = λ q. absurd (true≢false q);
-        }
+    pub room-none : held ≡ 32 → (get_or l (b + (held - 1)) 0 ≡ h → ⊥) → Grows f l b held h full
+    room-none s e = λ m. rw (apart e m, length-append (span f l b held) (run (h + 1) m ∷ []), span-length f l b held) (omega arith)
 
-    pub room_next : held < 32 → (get_or l (b + (held - 1)) 0 ≡ h → ⊥) → Grows f l b held h (gap false held (h + 1))
+    pub room_next : held < 32 → (get_or l (b + (held - 1)) 0 ≡ h → ⊥) → Grows f l b held h (placed held (h + 1))
     room_next s e =
-        fits f l b held h held (h + 1)
         (record { within = s; low = omega arith; high = omega arith; grown = λ m. rw (span-take f l b held held (omega arith)) (apart e m) })
 
 -- in a row within the rules
-pub room_grows : (f l : List ℕ) (i n h : ℕ) → i < 8 → n ≤ 32 → h ≤ most_number → (g : Gap) → g ≡ room f l i n h → Grows f l (i * 32) n h g
+pub room_grows : (f l : List ℕ) (i n h : ℕ) → i < 8 → n ≤ 32 → h ≤ most_number → (g : Option Gap) → g ≡ room f l i n h → Grows f l (i * 32) n h g
 unfolding room
 room_grows f l i n h p q r g e = rw (e, yes_there i n p q, le-leb h most_number r) (go (eqb n 0) refl (eqb (get_or l (i * 32 + (n - 1)) 0) h) refl (ltb n 32) refl)
   where

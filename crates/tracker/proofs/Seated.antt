@@ -1,7 +1,7 @@
 -- What a channel's seat tells of the tracker, and the refusals in their order.
 use Prim.Native.Nat.{ℕ, zero, suc, ◌+◌, ◌*◌, ◌≤◌, ◌<◌}
 use native.Mathlib.Omega.{arith}
-use mathlib.Core.Path.{◌≡◌, ap, sym, ◌∙◌}
+use mathlib.Core.Path.{◌≡◌}
 use mathlib.Core.List.{[]}
 use mathlib.Core.Bool.{true, false, not}
 use lib.Dec.{leb, eqb}
@@ -12,7 +12,9 @@ use Rattle.wire.specs.Refusal.{no_such_channel, malformed}
 use Rattle.gaps.specs.Channel.{Event, judge_event}
 use Rattle.gaps.proofs.Numbers.{and_split}
 use Rattle.tracker.specs.declared.Tracker.{Tracker}
-use Rattle.seats.specs.declared.Seat.{Seat}
+use Rattle.seats.specs.declared.Malformed.{Malformed}
+use Rattle.std.specs.Prelude.{Option, Some, None, Ok, Err}
+use Rattle.seats.proofs.Seated.{seat_err, seat_ok, seat_none, seat_some}
 use Rattle.seats.specs.Arrays.{Arrays}
 use Rattle.tracker.specs.Places.{made, arrays_of, channel_at}
 use Rattle.seats.specs.Rules.{sound_row, sound_rows, sound_channels, sound}
@@ -68,11 +70,20 @@ module _ (t : Tracker) (k : ℕ) (e : Event) where
 
 -- ---- a seat
 
-module _ (a : Arrays) (k : ℕ) (s : Seat) (q : s ≡ seat_of k a) where
-  pub seat_sound : well_formed (made a) ≡ s.sound
-  unfolding seat_of well_formed
-  seat_sound = sym (ap (λ (x : Seat). x.sound) q)
+module _ (a : Arrays) (k : ℕ) where
+  pub ill_seated : (e : Malformed) → Err e ≡ seat_of k a → well_formed (made a) ≡ false
+  unfolding well_formed
+  ill_seated e q = seat_err k a e q
 
-  pub seat_place : well_formed (made a) ≡ true → place (made a) k ≡ s.at
-  unfolding seat_of well_formed place
-  seat_place p = sym (ap (λ (x : Seat). x.at) q ∙ rw p)
+  module _ (o : Option ℕ) (q : Ok o ≡ seat_of k a) where
+    pub well_seated : well_formed (made a) ≡ true
+    unfolding well_formed
+    well_seated = (seat_ok k a o q).well
+
+    pub none_seated : o ≡ None → a.count ≤ place (made a) k
+    unfolding place
+    none_seated h = seat_none k a o q h
+
+    pub some_seated : (i : ℕ) → o ≡ Some i → (place (made a) k ≡ i) × (i < a.count)
+    unfolding place
+    some_seated i h = let t = seat_some k a o i q h in (t.place, t.inside)

@@ -1,12 +1,14 @@
 -- What an arrival does to a tracker: the refusals in their order, then the channel's step.
-use Rattle.std.specs.Prelude.{ℕ, [], not, ltb}
+use Rattle.std.specs.Prelude.{ℕ, [], not, ltb, Result, Ok, Err}
 use Rattle.wire.specs.Answer.{Answer, accepted, refused, guard}
 use Rattle.wire.specs.Refusal.{no_such_channel, number_too_low, table_full, malformed}
 use Rattle.gaps.specs.Channel.{Event, ArrivalSaid, new, late, duplicate, heard, before_start, Step, judge_event}
 use Rattle.seats.specs.Seat.{place_from}
 use Rattle.tracker.specs.declared.Tracker.{Tracker}
-use Rattle.tracker.specs.declared.Verdict.{Verdict}
-use Rattle.tracker.specs.declared.Verdict.TheVariants.{New, Late, Duplicate, Heard, BeforeStart, NoSuchChannel, NumberTooLow, TableFull, Malformed}
+use Rattle.tracker.specs.declared.News.{News}
+use Rattle.tracker.specs.declared.News.TheVariants.{New, Late, Duplicate, Heard, BeforeStart}
+use Rattle.tracker.specs.declared.Refusal.{Refusal}
+use Rattle.tracker.specs.declared.Refusal.TheVariants.{NoSuchChannel, NumberTooLow, TableFull, Malformed}
 use Rattle.tracker.specs.declared.Reply.{Reply}
 use Rattle.tracker.specs.Places.{channel_at, put}
 use Rattle.tracker.specs.Rules.{well_formed}
@@ -42,17 +44,21 @@ arrive t a =
     (guard (not (ltb (place t a.channel) t.count)) (refused no_such_channel [])
     (judge_event (channel_at t (place t a.channel)) a.event)))
 
--- the number and values for each case of the code's verdict
+-- what an arrival is answered by the code
+abbrev pub Verdict : Type 0
+Verdict = Result News Refusal
+
+-- the number and values for each case of it
 abbrev pub arrival_said : Verdict → Answer ArrivalSaid
-arrival_said New = accepted new
-arrival_said Late = accepted late
-arrival_said Duplicate = accepted duplicate
-arrival_said Heard = accepted heard
-arrival_said BeforeStart = accepted before_start
-arrival_said NoSuchChannel = refused no_such_channel []
-arrival_said NumberTooLow = refused number_too_low []
-arrival_said TableFull = refused table_full []
-arrival_said Malformed = refused malformed []
+arrival_said (Ok New) = accepted new
+arrival_said (Ok Late) = accepted late
+arrival_said (Ok Duplicate) = accepted duplicate
+arrival_said (Ok Heard) = accepted heard
+arrival_said (Ok BeforeStart) = accepted before_start
+arrival_said (Err NoSuchChannel) = refused no_such_channel []
+arrival_said (Err NumberTooLow) = refused number_too_low []
+arrival_said (Err TableFull) = refused table_full []
+arrival_said (Err Malformed) = refused malformed []
 
 -- what a verdict says, with the next tracker
 abbrev pub answered : Verdict → Tracker → Outcome

@@ -1,26 +1,24 @@
 -- What the private functions of the crate promise to one another.
-use Rattle.std.specs.Prelude.{ℕ, ◌+◌, ◌*◌, ◌-◌, ◌≤◌, ◌<◌, ◌≡◌, List, [], map, Bool, true, false, cond, ltb, eqb, ℤ, length, get_or, set}
+use Rattle.std.specs.Prelude.{ℕ, ◌+◌, ◌*◌, ◌-◌, ◌≤◌, ◌<◌, ◌≡◌, List, [], map, Bool, true, false, cond, ltb, eqb, ℤ, length, get_or, set, Option, Some, None, Result, Ok, Err}
 use Rattle.wire.specs.Answer.{Answer, accepted, refused}
-use Rattle.wire.specs.Refusal.{no_such_channel, table_full, malformed}
+use Rattle.wire.specs.Refusal.{output_short, no_such_channel, table_full, malformed}
 use Rattle.gaps.specs.declared.Run.{Run}
 use Rattle.gaps.specs.Limits.{run_limit}
 use Rattle.gaps.specs.Gaps.{grow}
 use Rattle.gaps.specs.Built.{padded}
 use Rattle.gaps.specs.Channel.{changed, natural, Event, ArrivalSaid, too_low, judge_event}
-use Rattle.seats.specs.Arrays.{Lent, LentMut, PassedMut, in_arrays_mut}
 use Rattle.seats.specs.Places.{channel_limit, place_count}
 use Rattle.seats.specs.Rules.{sound_row}
 use Rattle.rows.specs.declared.Held.{Held}
-use Rattle.rows.specs.declared.Held.TheVariants.{No, AtEnd, Alone, Inside}
+use Rattle.rows.specs.declared.Held.TheVariants.{AtEnd, Alone, Inside}
 use Rattle.rows.specs.Shift.{closed, opened}
 use Rattle.tracker.specs.declared.Tracker.{Tracker}
-use Rattle.tracker.specs.declared.Wanted.{Wanted}
-use Rattle.tracker.specs.declared.Wanted.TheVariants as wanted
-use Rattle.tracker.specs.declared.Verdict.{Verdict}
-use Rattle.tracker.specs.declared.Verdict.TheVariants.{Late, Duplicate, TableFull}
-use Rattle.tracker.specs.declared.Judged.{Judged}
-use Rattle.tracker.specs.declared.Judged.TheVariants.{Refused, At}
-use Rattle.tracker.specs.Places.{made, channel_at, put}
+use Rattle.tracker.specs.declared.News.TheVariants.{Late}
+use Rattle.tracker.specs.declared.Refusal.{Refusal}
+use Rattle.tracker.specs.declared.Refusal.TheVariants.{TableFull}
+use Rattle.tracker.specs.declared.RequestRefusal.{RequestRefusal}
+use Rattle.tracker.specs.declared.RequestRefusal.TheVariants.{Malformed, NoSuchChannel, OutputShort}
+use Rattle.tracker.specs.Places.{channel_at, put}
 use Rattle.tracker.specs.Arrived.{Outcome, on, settled, arrive, answered}
 use Rattle.tracker.specs.FirstRun.{Lost, lost, nothing_missing}
 
@@ -41,39 +39,18 @@ pub record SoundAt (from : ℕ) (highest ended counts first last : List ℕ) (i 
 abbrev pub SoundIn : Tracker → ℕ → Type 0
 SoundIn t i = SoundAt (get_or t.from i 0) t.highest t.ended t.counts t.first t.last i
 
--- the same, of some first number
-pub record SoundFrom (highest ended counts first last : List ℕ) (i : ℕ) : Type 0 where
-  pub from : ℕ
-  pub sound : SoundAt from highest ended counts first last i
+-- T2: a place of channels, whose count of runs has room in the row
+abbrev pub RoomIn : Tracker → ℕ → Type 0
+RoomIn t i = (i < channel_limit) × (get_or t.counts i 0 ≤ run_limit)
 
 -- the event judged by it
 abbrev pub stepped : ℕ → Event → Tracker → Outcome
 stepped i e t = settled t i (judge_event (channel_at t i) e)
 
 -- an event on channel k that is too low where `low` says so: refused, with the tracker as it stood, or judged by its channel, which keeps the rules
-abbrev pub Judges : Tracker → ℕ → Bool → Judged → Type 0
-Judges t k low (Refused v) = (e : Event) → too_low e ≡ low → arrive t (on k e) ≡ answered v t
-Judges t k low (At i) = (low ≡ false) × SoundIn t i × ((e : Event) → arrive t (on k e) ≡ stepped i e t)
-
--- ---- what lent arrays become
-
--- the answer, and those of the next tracker, with these first numbers, whatever the count of channels and their numbers
-abbrev pub BecomesFrom : Lent → Verdict → (Tracker → Outcome) → (highest ended counts first last : PassedMut) → Type 0
-BecomesFrom from r next highest ended counts first last =
-    (k : ℕ) (ns : Lent) →
-    answered r (made (in_arrays_mut k ns from highest.exit ended.exit counts.exit first.exit last.exit)) ≡
-    next (made (in_arrays_mut k ns from highest.entry ended.entry counts.entry first.entry last.entry))
-
--- the same, whatever the first numbers
-abbrev pub Becomes : Verdict → (Tracker → Outcome) → (highest ended counts first last : PassedMut) → Type 0
-Becomes r next highest ended counts first last = (from : Lent) → BecomesFrom from r next highest ended counts first last
-
--- the same of the runs alone, whatever the highest numbers and the marks too
-abbrev pub Relays : Verdict → (Tracker → Outcome) → (counts first last : PassedMut) → Type 0
-Relays r next counts first last =
-    (from : Lent) (k : ℕ) (ns : Lent) (h e : LentMut) →
-    answered r (made (in_arrays_mut k ns from h e counts.exit first.exit last.exit)) ≡
-    next (made (in_arrays_mut k ns from h e counts.entry first.entry last.entry))
+abbrev pub Judges : Tracker → ℕ → Bool → Result ℕ Refusal → Type 0
+Judges t k low (Err v) = (e : Event) → too_low e ≡ low → arrive t (on k e) ≡ answered (Err v) t
+Judges t k low (Ok i) = (low ≡ false) × SoundIn t i × ((e : Event) → arrive t (on k e) ≡ stepped i e t)
 
 -- ---- numbers that become missing
 
@@ -92,7 +69,6 @@ raising i said top mark m t = stored_or_full t i said top mark (grow (channel_at
 
 -- there is a run to change: a place of runs, or one run at least, of this count
 abbrev pub Changeable : Held → ℕ → Type 0
-Changeable No count = Unit
 Changeable (AtEnd p first last) count = p < place_count
 Changeable (Alone p) count = 1 ≤ count
 Changeable (Inside p) count = p < place_count
@@ -129,16 +105,16 @@ cleft t i p n =
 
 -- T7, T8: the answer, and the next tracker
 abbrev pub late_as : Held → ℕ → ℕ → Tracker → Outcome
-late_as No i n t = answered Duplicate t
-late_as (AtEnd p first last) i n t = answered Late (replaced t p first last)
-late_as (Alone p) i n t = answered Late (shut t i p)
-late_as (Inside p) i n t = cond (eqb (get_or t.counts i 0) run_limit) (answered TableFull t) (answered Late (cleft t i p n))
+late_as (AtEnd p first last) i n t = answered (Ok Late) (replaced t p first last)
+late_as (Alone p) i n t = answered (Ok Late) (shut t i p)
+late_as (Inside p) i n t = cond (eqb (get_or t.counts i 0) run_limit) (answered (Err TableFull) t) (answered (Ok Late) (cleft t i p n))
 
 -- ---- the first run of a channel
 
 -- the number and values for each case of the answer
-abbrev pub lost_of : Wanted → Answer Lost
-lost_of (wanted.First r) = accepted (lost r)
-lost_of wanted.NothingMissing = accepted nothing_missing
-lost_of wanted.NoSuchChannel = refused no_such_channel []
-lost_of wanted.Malformed = refused malformed []
+abbrev pub lost_of : Result (Option Run) RequestRefusal → Answer Lost
+lost_of (Ok (Some r)) = accepted (lost r)
+lost_of (Ok None) = accepted nothing_missing
+lost_of (Err Malformed) = refused malformed []
+lost_of (Err NoSuchChannel) = refused no_such_channel []
+lost_of (Err OutputShort) = refused output_short []

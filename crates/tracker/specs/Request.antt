@@ -1,6 +1,6 @@
 -- The request for the numbers that a channel misses first.
 -- Assumes nothing.
-use Rattle.std.specs.Prelude.{ℕ, ◌+◌, ◌-◌, cond, List, [], ◌∷◌, ltb, ℤ, pos, length, replicate}
+use Rattle.std.specs.Prelude.{ℕ, ◌+◌, ◌-◌, cond, List, [], ◌∷◌, ltb, ℤ, pos, length, replicate, Option, Some, None, Result, Ok, Err}
 use Rattle.wire.specs.Answer.{Answer, accepted, refused, guard, and_then}
 use Rattle.wire.specs.Bytes.{splice}
 use Rattle.wire.specs.Refusal.{output_short, no_such_channel, malformed}
@@ -13,8 +13,8 @@ use Rattle.gaps.specs.declared.Run.{Run}
 use Rattle.gaps.specs.Gaps.{run}
 use Rattle.tracker.specs.declared.Tracker.{Tracker}
 use Rattle.tracker.specs.FirstRun.{Lost, lost, nothing_missing, first_run}
-use Rattle.tracker.specs.declared.Requested.{Requested}
-use Rattle.tracker.specs.declared.Requested.TheVariants.{Written, NothingMissing, Malformed, NoSuchChannel, OutputShort}
+use Rattle.tracker.specs.declared.RequestRefusal.{RequestRefusal}
+use Rattle.tracker.specs.declared.RequestRefusal.TheVariants.{Malformed, NoSuchChannel, OutputShort}
 
 -- ---- which numbers it asks for
 
@@ -102,10 +102,14 @@ request t k out = answer_of (request_judged t k (length out))
 unfoldable pub request_leaves : Tracker → ℕ → List ℕ → List ℕ
 request_leaves t k out = output_asked (request_judged t k (length out)) k out
 
--- the number and values for each case of the code's answer
+-- what a request is answered by the code
+abbrev pub Requested : Type 0
+Requested = Result (Option ℕ) RequestRefusal
+
+-- the number and values for each case of it
 abbrev pub means_requested : Requested → Answer RequestSaid
-means_requested (Written n) = accepted (written n)
-means_requested NothingMissing = accepted nothing
-means_requested Malformed = refused malformed []
-means_requested NoSuchChannel = refused no_such_channel []
-means_requested OutputShort = refused output_short []
+means_requested (Ok (Some n)) = accepted (written n)
+means_requested (Ok None) = accepted nothing
+means_requested (Err Malformed) = refused malformed []
+means_requested (Err NoSuchChannel) = refused no_such_channel []
+means_requested (Err OutputShort) = refused output_short []

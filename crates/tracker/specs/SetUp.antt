@@ -1,5 +1,5 @@
 -- The set-up of a tracker with its channels and their first numbers.
-use Rattle.std.specs.Prelude.{ℕ, List, [], map, not, ℤ, length, replicate}
+use Rattle.std.specs.Prelude.{ℕ, List, [], map, not, ℤ, length, replicate, Result, Ok, Err}
 use Rattle.wire.specs.Answer.{Answer, accepted, refused, guard}
 use Rattle.wire.specs.Refusal.{malformed}
 use Rattle.gaps.specs.Built.{padded}
@@ -7,8 +7,7 @@ use Rattle.gaps.specs.Channel.{natural, fresh}
 use Rattle.seats.specs.Places.{channel_limit, place_count}
 use Rattle.seats.specs.Rules.{channels_listed}
 use Rattle.tracker.specs.declared.Tracker.{Tracker}
-use Rattle.tracker.specs.declared.Start.{Start}
-use Rattle.tracker.specs.declared.Start.TheVariants.{SetUp, Malformed}
+use Rattle.seats.specs.declared.Malformed.{Malformed}
 use Rattle.tracker.specs.declared.Started.{Started}
 
 -- a count of channels, their numbers, first and highest ones, all else zero
@@ -45,10 +44,14 @@ set_up_gives (refused n v) = record { said = refused n v; tracker = blank_of [] 
 unfoldable pub set_up : List ℕ → List ℤ → Ready
 set_up numbers from = set_up_gives (guard (not (channels_listed numbers from)) (refused malformed []) (accepted (blank_of numbers from)))
 
--- the number and values for each case of the code's answer
+-- what the set-up is answered by the code
+abbrev pub Start : Type 0
+Start = Result Unit Malformed
+
+-- the number and values for each case of it
 abbrev pub set_up_said : Start → Answer Unit
-set_up_said SetUp = accepted tt
-set_up_said Malformed = refused malformed []
+set_up_said (Ok x) = accepted tt
+set_up_said (Err x) = refused malformed []
 
 -- what the set-up's answer says
 abbrev pub means_started : Started → Ready

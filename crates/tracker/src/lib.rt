@@ -1,21 +1,24 @@
 // The gap record of up to eight channels: which numbers never came, in whatever order they came.
 #![tactic(auto)]
 
-ghost use Rattle.std.specs.Prelude.{◌≡◌};
+ghost use Rattle.std.specs.Prelude.{◌≡◌, Err};
 ghost use Rattle.gaps.specs.Channel.{tick, heartbeat};
 ghost use Rattle.wire.specs.Number.{answer_number};
+ghost use Rattle.seats.specs.Arrays.{held};
 ghost use Rattle.joins.specs.Join.{Joins};
 ghost use Rattle.tracker.specs.Places.{arrays_of};
-ghost use Rattle.tracker.specs.SetUp.{blank_with, set_up, set_up_said as start_of, means_started as begun};
+ghost use Rattle.tracker.specs.SetUp.{blank_with, set_up, means_started as begun};
 ghost use Rattle.tracker.specs.Arrived.{on, arrive, arrival_said, means_reply};
 ghost use Rattle.tracker.specs.Join.{means_joined as joined};
 ghost use Rattle.tracker.specs.Request.{request, request_leaves, means_requested as requested};
+ghost use Rattle.tracker.specs.declared.Refusal.TheVariants.{Malformed};
+ghost use Rattle.tracker.specs.declared.RequestRefusal.TheVariants.{Malformed as Unasked};
 
-use gaps::Run;
-pub use joins::{JoinVerdict, join_in};
+pub use joins::join_in;
 pub use lent::{heartbeat_in, tick_in};
 pub use request::request_in;
 use rows::padded;
+pub use seats::{Fields, FieldsMut, Malformed};
 use seats::{Seat, listed};
 use starts::lowered;
 use wire::answers;
@@ -27,6 +30,7 @@ mod signs;
 mod starts;
 
 // Each channel's number, first number, highest number, ended mark and count of runs, and the runs of all of them; unused places are zero.
+// Arrays side by side, as C holds them: the struct crosses to C by value.
 #[repr(C)]
 #[derive(Clone, Copy)]
 pub struct Tracker {
@@ -40,126 +44,119 @@ pub struct Tracker {
     pub last: [u64; Tracker::PLACES],
 }
 
-// What the set-up answers.
-#[derive(Clone, Copy)]
-pub enum Start {
-    SetUp,
-    Malformed,
-}
-
-impl Start {
-    // The refusal's number; the plain answer's where it is none.
-    pub fn number(self) -> u32
-        ensures { result ≡ answer_number (start_of self) }
-    {
-        match self {
-            Start::SetUp => answers::PLAIN,
-            Start::Malformed => answers::MALFORMED,
-        }
-    }
-}
-
-// The set-up's answer, and the tracker.
+// The set-up's answer, and the tracker; it is no part of the answer, as a refused set-up gives one too, that has no channel.
 #[derive(Clone, Copy)]
 pub struct Started {
-    pub verdict: Start,
+    pub verdict: Result<(), Malformed>,
     pub tracker: Tracker,
 }
 
-// What an arrival is answered.
-#[derive(Clone, Copy)]
-pub enum Verdict {
+// What an arrival brings.
+#[derive(Clone, Copy, Debug, PartialEq, Eq)]
+pub enum News {
     New,
     Late,
     Duplicate,
     Heard,
     BeforeStart,
+}
+
+// Why an arrival is refused.
+#[derive(Clone, Copy, Debug, PartialEq, Eq)]
+pub enum Refusal {
     NoSuchChannel,
     NumberTooLow,
     TableFull,
     Malformed,
 }
 
-impl Verdict {
-    // The refusal's number; the plain answer's where it is none.
-    pub fn number(self) -> u32
-        ensures { result ≡ answer_number (arrival_said self) }
-    {
-        match self {
-            Verdict::New => answers::PLAIN,
-            Verdict::Late => answers::PLAIN,
-            Verdict::Duplicate => answers::PLAIN,
-            Verdict::Heard => answers::PLAIN,
-            Verdict::BeforeStart => answers::PLAIN,
-            Verdict::NoSuchChannel => answers::NO_SUCH_CHANNEL,
-            Verdict::NumberTooLow => answers::NUMBER_TOO_LOW,
-            Verdict::TableFull => answers::TABLE_FULL,
-            Verdict::Malformed => answers::MALFORMED,
+impl From<Malformed> for Refusal {
+    ghost from_gives = { λ _ why. why ≡ Malformed };
+
+    fn from(_: Malformed) -> Refusal {
+        Refusal::Malformed
+    }
+}
+
+// The refusal's number.
+impl From<Refusal> for u32 {
+    ghost from_gives = { λ why n. n ≡ answer_number (arrival_said (Err why)) };
+
+    fn from(why: Refusal) -> u32 {
+        match why {
+            Refusal::NoSuchChannel => answers::NO_SUCH_CHANNEL,
+            Refusal::NumberTooLow => answers::NUMBER_TOO_LOW,
+            Refusal::TableFull => answers::TABLE_FULL,
+            Refusal::Malformed => answers::MALFORMED,
         }
     }
 }
 
-// An arrival's answer, and the next tracker.
+// An arrival's answer, and the next tracker, which a refusal gives too: as it stood.
 #[derive(Clone, Copy)]
 pub struct Reply {
-    pub verdict: Verdict,
+    pub verdict: Result<News, Refusal>,
     pub next: Tracker,
 }
 
-// A join's answer, and the next tracker.
+// A join's answer, and the next tracker, which a refusal gives too: as it stood.
 #[derive(Clone, Copy)]
 pub struct Joined {
-    pub verdict: JoinVerdict,
+    pub verdict: Result<(), joins::Refusal>,
     pub next: Tracker,
 }
 
-// What a request is answered: how many bytes were written, nothing missing, or the refusal.
-#[derive(Clone, Copy)]
-pub enum Requested {
-    Written(usize),
-    NothingMissing,
+// Why a request is refused.
+#[derive(Clone, Copy, Debug, PartialEq, Eq)]
+pub enum RequestRefusal {
     Malformed,
     NoSuchChannel,
     OutputShort,
 }
 
-impl Requested {
-    // The most numbers that one request asks for.
-    pub const BATCH: u64 = 200;
+impl From<Malformed> for RequestRefusal {
+    ghost from_gives = { λ _ why. why ≡ Unasked };
 
-    // The refusal's number; the plain answer's where it is none.
-    pub fn number(self) -> u32
-        ensures { result ≡ answer_number (requested self) }
-    {
-        match self {
-            Requested::Written(_) => answers::PLAIN,
-            Requested::NothingMissing => answers::PLAIN,
-            Requested::Malformed => answers::MALFORMED,
-            Requested::NoSuchChannel => answers::NO_SUCH_CHANNEL,
-            Requested::OutputShort => answers::OUTPUT_SHORT,
+    fn from(_: Malformed) -> RequestRefusal {
+        RequestRefusal::Malformed
+    }
+}
+
+// The refusal's number.
+impl From<RequestRefusal> for u32 {
+    ghost from_gives = { λ why n. n ≡ answer_number (requested (Err why)) };
+
+    fn from(why: RequestRefusal) -> u32 {
+        match why {
+            RequestRefusal::Malformed => answers::MALFORMED,
+            RequestRefusal::NoSuchChannel => answers::NO_SUCH_CHANNEL,
+            RequestRefusal::OutputShort => answers::OUTPUT_SHORT,
         }
     }
 }
 
-// The first run of a channel, or why there is none.
-#[derive(Clone, Copy)]
-enum Wanted {
-    First(Run),
-    NothingMissing,
-    NoSuchChannel,
-    Malformed,
-}
-
-// The refusal of an arrival by 10, 7 or 8, or the place of its channel.
-#[derive(Clone, Copy)]
-enum Judged {
-    Refused(Verdict),
-    At(usize),
+// A tracker's fields, lent to be written. It is a macro, as a function that lends five arrays has no contract that says what becomes of them.
+macro_rules! lent {
+    ($tracker:ident) => {
+        FieldsMut {
+            count: $tracker.count,
+            numbers: &$tracker.numbers,
+            from: &$tracker.from,
+            highest: &mut $tracker.highest,
+            ended: &mut $tracker.ended,
+            counts: &mut $tracker.counts,
+            first: &mut $tracker.first,
+            last: &mut $tracker.last,
+        }
+    };
 }
 
 impl Tracker {
     // The most channels that a tracker holds.
     pub const CHANNELS: usize = Seat::COUNT;
+
+    // The most numbers that one request asks for.
+    pub const BATCH: u64 = 200;
 
     // The places of all channels' runs.
     const PLACES: usize = Seat::PLACES;
@@ -170,7 +167,7 @@ impl Tracker {
     {
         if listed(numbers, from) {
             return Started {
-                verdict: Start::SetUp,
+                verdict: Ok(()),
                 tracker: Tracker::blank(
                     numbers.len(),
                     padded(numbers),
@@ -180,7 +177,7 @@ impl Tracker {
             };
         }
         Started {
-            verdict: Start::Malformed,
+            verdict: Err(Malformed),
             tracker: Tracker::blank(
                 0,
                 [0; Tracker::CHANNELS],
@@ -200,10 +197,10 @@ impl Tracker {
         ensures { result ≡ blank_with count numbers from highest }
     {
         Tracker {
-            count: count,
-            numbers: numbers,
-            from: from,
-            highest: highest,
+            count,
+            numbers,
+            from,
+            highest,
             ended: [0; Tracker::CHANNELS],
             counts: [0; Tracker::CHANNELS],
             first: [0; Tracker::PLACES],
@@ -211,146 +208,60 @@ impl Tracker {
         }
     }
 
+    // Its fields, lent to be read.
+    pub fn fields(&self) -> Fields<'_>
+        ensures { held result ≡ arrays_of self.now }
+    {
+        Fields {
+            count: self.count,
+            numbers: &self.numbers,
+            from: &self.from,
+            highest: &self.highest,
+            ended: &self.ended,
+            counts: &self.counts,
+            first: &self.first,
+            last: &self.last,
+        }
+    }
+
     // A tick on a channel: its answer, and the next tracker.
-    pub fn tick(self, channel: u16, number: i64) -> Reply
+    pub fn tick(mut self, channel: u16, number: i64) -> Reply
         ensures { means_reply result ≡ arrive self (on channel (tick number)) }
     {
-        let count = self.count;
-        let numbers = self.numbers;
-        let from = self.from;
-        let mut highest = self.highest;
-        let mut ended = self.ended;
-        let mut counts = self.counts;
-        let mut first = self.first;
-        let mut last = self.last;
-        let verdict = lent::tick_in(
-            count,
-            &numbers,
-            &from,
-            &mut highest,
-            &mut ended,
-            &mut counts,
-            &mut first,
-            &mut last,
-            channel,
-            number,
-        );
+        let verdict = tick_in(&mut lent!(self), channel, number);
         Reply {
             verdict,
-            next: Tracker {
-                count,
-                numbers,
-                from,
-                highest,
-                ended,
-                counts,
-                first,
-                last,
-            },
+            next: self,
         }
     }
 
     // A channel heartbeat: its answer, and the next tracker.
-    pub fn heartbeat(self, channel: u16, last: i64, end: bool) -> Reply
+    pub fn heartbeat(mut self, channel: u16, last: i64, end: bool) -> Reply
         ensures { means_reply result ≡ arrive self (on channel (heartbeat last end)) }
     {
-        let count = self.count;
-        let numbers = self.numbers;
-        let from = self.from;
-        let mut highest = self.highest;
-        let mut ended = self.ended;
-        let mut counts = self.counts;
-        let mut first = self.first;
-        let mut lasts = self.last;
-        let verdict = lent::heartbeat_in(
-            count,
-            &numbers,
-            &from,
-            &mut highest,
-            &mut ended,
-            &mut counts,
-            &mut first,
-            &mut lasts,
-            channel,
-            last,
-            end,
-        );
+        let verdict = heartbeat_in(&mut lent!(self), channel, last, end);
         Reply {
             verdict,
-            next: Tracker {
-                count,
-                numbers,
-                from,
-                highest,
-                ended,
-                counts,
-                first,
-                last: lasts,
-            },
+            next: self,
         }
     }
 
     // This tracker joined with another of the same set-up: what either received is received. A refusal gives this one back as it stood.
-    pub fn join(self, other: Tracker) -> Joined
+    pub fn join(mut self, other: Tracker) -> Joined
         ensures { Joins (arrays_of self) (arrays_of other) (joined result) }
     {
-        let count = self.count;
-        let numbers = self.numbers;
-        let from = self.from;
-        let mut highest = self.highest;
-        let mut ended = self.ended;
-        let mut counts = self.counts;
-        let mut first = self.first;
-        let mut last = self.last;
-        let verdict = join_in(
-            count,
-            &numbers,
-            &from,
-            &mut highest,
-            &mut ended,
-            &mut counts,
-            &mut first,
-            &mut last,
-            other.count,
-            &other.numbers,
-            &other.from,
-            &other.highest,
-            &other.ended,
-            &other.counts,
-            &other.first,
-            &other.last,
-        );
+        let verdict = join_in(&mut lent!(self), other.fields());
         Joined {
             verdict,
-            next: Tracker {
-                count,
-                numbers,
-                from,
-                highest,
-                ended,
-                counts,
-                first,
-                last,
-            },
+            next: self,
         }
     }
 
-    // Writes the frame that asks for the first run of a channel, or for as many of its numbers as one request may; a refused or empty request leaves every byte as it stood.
-    pub fn request(self, channel: u16, out: &mut [u8]) -> Requested
+    // Writes the frame that asks for the first run of a channel, or for as many of its numbers as one request may, and tells how many bytes; none where nothing is missing. A refused or empty request leaves every byte as it stood.
+    pub fn request(self, channel: u16, out: &mut [u8]) -> Result<Option<usize>, RequestRefusal>
         ensures result_value { requested result ≡ request self channel out.old }
         ensures out_after { out.new ≡ request_leaves self channel out.old }
     {
-        request::request_in(
-            self.count,
-            &self.numbers,
-            &self.from,
-            &self.highest,
-            &self.ended,
-            &self.counts,
-            &self.first,
-            &self.last,
-            channel,
-            out,
-        )
+        request_in(self.fields(), channel, out)
     }
 }

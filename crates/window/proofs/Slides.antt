@@ -1,68 +1,25 @@
 -- Bytes that move to the front, one by one; what is kept of the gathered bytes and what is written; and where what is read stands.
 -- Assumes nothing.
-use Prim.Native.Nat.{ℕ, suc, ◌+◌, ◌-◌, ◌≤◌, ◌<◌}
+use Prim.Native.Nat.{ℕ, ◌+◌, ◌-◌, ◌≤◌, ◌<◌}
 use mathlib.Core.Path.{◌≡◌, refl, ap, ◌∙◌}
-use mathlib.Core.List.{List, [], ◌∷◌, ◌++◌}
-use native.Mathlib.Numerals.{add-one}
+use mathlib.Core.List.{List, [], ◌++◌}
 use native.Mathlib.Omega.{arith}
 use borrow.Author.Tests.{le-leb, lt-leb, leb-true}
 use mathlib.Core.Bool.{Bool, true, false, cond, ◌&&◌}
 use lib.Dec.{leb}
-use lib.ListN.{length, take, drop, get_or, set, length-append, length-drop}
-use lib.Seq.{length-take-le, take-suc, drop-cons, set_at, get_or-append-add, get_or-drop, append_snoc, drop_at}
-use Rattle.std.proofs.Common.{Option, None, Some, Result, Ok, Err, OnErr, sym, append-nil}
+use lib.ListN.{length, take, drop, length-append, length-drop}
+use lib.Seq.{length-take-le, drop_at}
+use Rattle.std.proofs.Common.{Option, None, Some, Result, Ok, Err, OnErr, sym, append-nil, zero-add, subst, append_assoc, take-take, take-append-drop, take-add}
 use Rattle.std.proofs.lemmas.List.{drop-take, take-append-le}
-use Rattle.std.specs.Io.KnownBytes.{Appends}
-use Rattle.window.specs.Window.{slid, moved, still_held, written}
+use lib.Seq.{take-append_seam}
+use Rattle.std.specs.List.{copy_within}
+use Rattle.std.specs.Io.KnownBytes.{Appends, Consumes}
+use Rattle.window.specs.Window.{slid, moved, still_held, written, LeftOf}
 
--- i bytes from an offset on have moved to the front
-abbrev pub sliding : List ℕ → ℕ → ℕ → List ℕ
-sliding s from i = take i (drop from s) ++ drop i s
-
-module _ (s : List ℕ) (from i : ℕ) (h : from + i < length s) where
-  front : length (take i (drop from s)) ≡ i
-  front = length-take-le i (drop from s) (omega (arith, length-drop from s))
-
-  pub slide_length : length (sliding s from i) ≡ length s
-  slide_length = omega (arith, length-append (take i (drop from s)) (drop i s), front, length-drop i s)
-
-  read-ahead : get_or (sliding s from i) (from + i) 0 ≡ get_or s (from + i) 0
-  read-ahead =
-      let e : from + i ≡ length (take i (drop from s)) + from = omega (arith, front) in
-      let f : i + from ≡ from + i = omega arith in
-      ap (λ (n : ℕ). get_or (sliding s from i) n 0) e
-      ∙ get_or-append-add (take i (drop from s)) (drop i s) from 0
-      ∙ get_or-drop i s from 0
-      ∙ rw f
-
-  pub slide_more : set (sliding s from i) i (get_or (sliding s from i) (from + i) 0) ≡ sliding s from (i + 1)
-  slide_more =
-      let a : drop i s ≡ get_or s i 0 ∷ drop (suc i) s = drop-cons s i 0 (omega arith) in
-      let b : take (suc i) (drop from s) ≡ take i (drop from s) ++ (get_or (drop from s) i 0 ∷ _) =
-      take-suc (drop from s) i 0 (omega (arith, length-drop from s))
-      in
-      rw (
-        read-ahead,
-        a,
-        set_at (take i (drop from s)) (get_or s i 0) (drop (suc i) s) (get_or s (from + i) 0) i front,
-        add-one,
-        b,
-        get_or-drop from s i 0,
-        append_snoc,
-      )
-
-pub slide_end : (s : List ℕ) (from n : ℕ) → from + n ≤ length s → length (sliding s from n) ≡ length s
-slide_end s from n h =
-    omega (
-      arith,
-      length-append (take n (drop from s)) (drop n s),
-      length-take-le n (drop from s) (omega (arith, length-drop from s)),
-      length-drop n s,
-    )
-
-pub slid-there : (s : List ℕ) (from to : ℕ) → to ≤ length s → from ≤ to → (slid s from to ≡ sliding s from (to - from)) × (moved s from to ≡ to - from)
+-- the bytes from an offset up to another, written over the front
+pub pasted : (s : List ℕ) (from to : ℕ) → to ≤ length s → from ≤ to → (copy_within s from to 0 ≡ slid s from to) × (to - from ≡ moved s from to)
 unfolding slid moved
-slid-there s from to h k = (rw (le-leb to (length s) h, le-leb from to k), rw (le-leb to (length s) h, le-leb from to k))
+pasted s from to h k = (rw (zero-add (to - from), le-leb to (length s) h, le-leb from to k), rw (le-leb to (length s) h, le-leb from to k))
 
 pub slid_beyond : (s : List ℕ) (from to : ℕ) → length s < to → (s ≡ slid s from to) × (0 ≡ moved s from to)
 unfolding slid moved
@@ -122,3 +79,60 @@ appends-none (Some xs) = sym (append-nil xs)
 pub on-error : {T E : Type 0} (r : Result T E) (P : Type 0) → P → OnErr r P
 on-error (Ok x) P h = tt
 on-error (Err e) P h = h
+
+consumes-both : (a b c : Option (List ℕ)) (xs ys : List ℕ) → Consumes a b xs → Consumes b c ys → Consumes a c (xs ++ ys)
+consumes-both None b c xs ys h k = tt
+consumes-both (Some x) None c xs ys h k = absurd h
+consumes-both (Some x) (Some y) None xs ys h k = absurd k
+consumes-both (Some x) (Some y) (Some z) xs ys h k = h ∙ ap (λ (t : List ℕ). xs ++ t) k ∙ sym (append_assoc xs ys z)
+
+consumes-none : (a : Option (List ℕ)) → Consumes a a []
+consumes-none None = tt
+consumes-none (Some x) = refl
+
+-- at first nothing was read, and nothing is left
+pub left-first : (a : Option (List ℕ)) (s : List ℕ) → LeftOf a a 0 s
+left-first a s = (omega arith, ([], consumes-none a))
+
+-- what a read brought is left too
+pub left-filled :
+    (a b c : Option (List ℕ)) (held n : ℕ) (s t : List ℕ) →
+    LeftOf a b held s → held ≤ n → n ≤ length t → take held t ≡ take held s → Consumes b c (drop held (take n t)) → LeftOf a c n t
+left-filled a b c held n s t (h, (before, k)) m l e r =
+    let g : take held s ++ drop held (take n t) ≡ take n t =
+    ap (λ (x : List ℕ). x ++ drop held (take n t)) (sym e ∙ sym (take-take held n t m)) ∙ take-append-drop held (take n t)
+    in (
+      l,
+      (
+        before,
+        subst
+            (Consumes a c)
+            (append_assoc before (take held s) (drop held (take n t)) ∙ ap (λ (x : List ℕ). before ++ x) g)
+            (consumes-both a b c (before ++ take held s) (drop held (take n t)) k r),
+      ),
+    )
+
+-- and less what was taken of it
+pub left-slid :
+    (a b : Option (List ℕ)) (from n : ℕ) (s : List ℕ) →
+    LeftOf a b n s → from ≤ n → LeftOf a b (moved s from n) (slid s from n)
+unfolding slid moved
+left-slid a b from n s (h, (before, k)) m =
+    let part : List ℕ = take (n - from) (drop from s) in
+    let long : length part ≡ n - from = length-take-le (n - from) (drop from s) (omega (arith, length-drop from s)) in
+    let there : take (n - from) (part ++ drop (n - from) s) ≡ part = ap (λ (i : ℕ). take i (part ++ drop (n - from) s)) (sym long) ∙ take-append_seam part (drop (n - from) s) in
+    let back : from + (n - from) ≡ n = omega arith in
+    let whole : take n s ≡ take from s ++ part = ap (λ (i : ℕ). take i s) (sym back) ∙ take-add from (n - from) s in
+    let fits : n - from ≤ length (part ++ drop (n - from) s) = omega (arith, long, length-append part (drop (n - from) s)) in
+    let kept : Consumes a b ((before ++ take from s) ++ take (n - from) (part ++ drop (n - from) s)) =
+    subst (Consumes a b) (ap (λ (x : List ℕ). before ++ x) whole ∙ sym (append_assoc before (take from s) part) ∙ ap (λ (x : List ℕ). (before ++ take from s) ++ x) (sym there)) k
+    in
+    rw (le-leb n (length s) h, le-leb from n m) (fits, (before ++ take from s, kept))
+
+-- of a turn: a read, steps, a slide
+pub left-turn :
+    (a b c : Option (List ℕ)) (held n from m : ℕ) (s t u : List ℕ) →
+    LeftOf a b held s → take held t ≡ take held s → (u ≡ slid t from n) × (m ≡ moved t from n) →
+    held ≤ n → n ≤ length t → from ≤ n → Consumes b c (drop held (take n t)) → LeftOf a c m u
+left-turn a b c held n from m s t u h stay (e, f) fits there took r =
+    rw (e, f) (left-slid a c from n t (left-filled a b c held n s t h fits there stay r) took)

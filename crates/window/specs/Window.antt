@@ -1,6 +1,9 @@
 -- A window that slides over the input, and bytes that are gathered. Which bytes a file gives or takes, no definition says.
 -- Assumes nothing.
-use Rattle.std.specs.Prelude.{ℕ, ◌+◌, ◌-◌, Bool, cond, ◌&&◌, List, [], ◌++◌, leb, length, take, drop}
+use Rattle.std.specs.Prelude.{ℕ, ◌+◌, ◌-◌, ◌<◌, ◌≤◌, Bool, cond, ◌&&◌, List, [], ◌++◌, leb, length, take, drop, Option}
+use Rattle.std.specs.Io.KnownBytes.{Consumes}
+use Rattle.window.specs.declared.Step.{Step}
+use Rattle.window.specs.declared.Step.TheVariants.{Took, Waits, Ends}
 
 -- there are bytes from an offset up to another
 abbrev pub bytes_there : List ℕ → ℕ → ℕ → Bool
@@ -22,3 +25,13 @@ still_held s gathered room = cond (leb (gathered + room) (length s)) gathered 0
 unfoldable pub written : List ℕ → ℕ → ℕ → List ℕ
 written s gathered room =
     cond (leb (gathered + room) (length s)) [] (cond (leb gathered (length s)) (take gathered s) [])
+
+-- a step takes some of the bytes, and no more than there are
+abbrev pub Fits : Step → List ℕ → Type 0
+Fits (Took n) s = (0 < n) × (n ≤ length s)
+Fits Waits s = Unit {0}
+Fits Ends s = Unit {0}
+
+-- n bytes at the front are the last of those that an input lost
+abbrev pub LeftOf : Option (List ℕ) → Option (List ℕ) → ℕ → List ℕ → Type 0
+LeftOf old new n s = (n ≤ length s) × ((before : List ℕ) × Consumes old new (before ++ take n s))

@@ -1,4 +1,5 @@
 // The numbers of the answers: 0 is the plain one, 1 to 99 are the refusals, 100 and up the others.
+// They stay numbers: the C interface answers them. Inside, refusals are enums.
 pub const PLAIN: u32 = 0;
 
 pub const TOO_SHORT: u32 = 1;

@@ -6,17 +6,14 @@ use mathlib.Core.Bool.{Bool, true, false, not}
 use mathlib.Core.List.{List, []}
 use native.Mathlib.Omega.{arith}
 use borrow.Author.Tests.{lt-ltb, le-ltb, ltb-false}
-use lib.Dec.{ltb}
+use lib.Dec.{ltb, lit≤}
 use lib.IntN.{ℤ}
 use Rattle.wire.specs.Answer.{Answer, accepted, refused, guard, and_then}
 use Rattle.wire.specs.Refusal.{too_long, not_its_layout, out_of_range, output_short}
 use Rattle.frame.specs.Framing.{body_limit}
-use Rattle.layout.specs.Layout.{Message}
-use Rattle.layout.specs.Paper.{means_verdict}
-use Rattle.layout.specs.declared.group.Verdict.{Verdict}
+use Rattle.layout.specs.Layout.{Message, heartbeat, channel_heartbeat, resend, statistics, security_status, snapshot, index, volume_index, order, trade, fields, size}
 use Rattle.layout.specs.Group.{verdict}
-use Rattle.record.specs.Paper.{means_record}
-use Rattle.record.specs.declared.Record.{Record}
+use Rattle.record.specs.Record.{Reading}
 use Rattle.bodies.specs.Body.{body_length, exact, all_in}
 use Rattle.bodies.specs.Parts.{verdict_of}
 use Rattle.writer.specs.Write.{frame_length, room_for_frame, write_known, write, write_leaves}
@@ -36,6 +33,20 @@ module _ (l room : ℕ) where
   unfolding guard
   fit-whole h k = rw (le-ltb body_limit l h, le-ltb room (frame_length l) k)
 
+-- the fields alone are within the limit
+pub fields_fit : (m : Message) → size (fields m) ≤ body_limit
+unfolding size
+fields_fit heartbeat = lit≤ tt
+fields_fit channel_heartbeat = lit≤ tt
+fields_fit resend = lit≤ tt
+fields_fit statistics = lit≤ tt
+fields_fit security_status = lit≤ tt
+fields_fit snapshot = lit≤ tt
+fields_fit index = lit≤ tt
+fields_fit volume_index = lit≤ tt
+fields_fit order = lit≤ tt
+fields_fit trade = lit≤ tt
+
 -- ---- "5 for the type, then 4, 5, 2, 6"
 
 in_order : (e i : Bool) (w : Answer ℕ) → and_then (verdict e i) (λ (u : Unit). w) ≡ guard (not e) (refused not_its_layout []) (guard (not i) (refused out_of_range []) w)
@@ -49,10 +60,6 @@ in_order false false w = refl
 pub by_verdict : (m : Message) (zs : List ℤ) (ts gs : List ℕ) (room : ℕ) → and_then (verdict_of m zs ts gs) (λ (u : Unit). room_for_frame (body_length m gs) room) ≡ write_known m zs ts gs room
 unfolding verdict_of write_known
 by_verdict m zs ts gs room = in_order (exact m zs ts gs) (all_in m zs gs) (room_for_frame (body_length m gs) room)
-
--- a verdict in the arm that the code took
-pub same-verdict : (l room : ℕ) {v u : Verdict} → v ≡ u → and_then (means_verdict u) (λ (x : Unit). room_for_frame l room) ≡ and_then (means_verdict v) (λ (x : Unit). room_for_frame l room)
-same-verdict l room e = rw e
 
 -- ---- what "written" says
 
@@ -84,9 +91,9 @@ known_by m zs ts gs room n true true p q e =
 pub known_of : (m : Message) (zs : List ℤ) (ts gs : List ℕ) (room n : ℕ) → write_known m zs ts gs room ≡ accepted n → Known m zs ts gs room n
 known_of m zs ts gs room n e = known_by m zs ts gs room n (exact m zs ts gs) (all_in m zs gs) refl refl e
 
--- what is answered and left of the record of an arm is answered and left of the record
-pub by_arm :
-    (ts gs out : List ℕ) {a : Answer ℕ} {z : List ℕ} {r v : Record} → r ≡ v →
-    (a ≡ write (means_record v) ts gs out) × (z ≡ write_leaves (means_record v) ts gs out) →
-    (a ≡ write (means_record r) ts gs out) × (z ≡ write_leaves (means_record r) ts gs out)
-by_arm ts gs out e h = rw e h
+-- what is answered and left of a listed type is answered and left of its record
+pub by_reading :
+    (ts gs out : List ℕ) {a : Answer ℕ} {z : List ℕ} {r v : Reading} → r ≡ v →
+    (a ≡ write v ts gs out) × (z ≡ write_leaves v ts gs out) →
+    (a ≡ write r ts gs out) × (z ≡ write_leaves r ts gs out)
+by_reading ts gs out e h = rw e h

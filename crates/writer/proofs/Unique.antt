@@ -1,16 +1,15 @@
 -- Two answers of the writer that meet its promise are equal, and two contents of the output are.
 -- Assumes nothing.
+use Rattle.std.specs.Prelude.{Ok, Err}
 use Prim.Native.Nat.{ℕ, zero, suc}
 use mathlib.Core.Path.{◌≡◌, refl, sym, ◌∙◌}
 use mathlib.Core.List.{List}
 use Rattle.record.specs.Paper.{means_record}
 use Rattle.record.specs.declared.Record.{Record}
-use Rattle.writer.specs.Paper.{writer_refusal, means_written}
+use Rattle.writer.specs.Paper.{writer_refusal, Written, means_written}
 use Rattle.writer.specs.Write.{write, write_leaves}
 use Rattle.writer.specs.declared.Refusal.{Refusal}
 use Rattle.writer.specs.declared.Refusal.TheVariants.{NotItsLayout, OutOfRange, TooLong, OutputShort}
-use Rattle.writer.specs.declared.Written.{Written}
-use Rattle.writer.specs.declared.Written.TheVariants.{Whole, Refused}
 
 named : ℕ → Refusal
 named zero = TooLong
@@ -29,10 +28,10 @@ named-number TooLong = refl
 named-number OutputShort = refl
 
 pub paper_one : (a b : Written) → means_written a ≡ means_written b → a ≡ b
-paper_one (Whole m) (Whole n) e = cc
-paper_one (Whole m) (Refused y) e = cc
-paper_one (Refused x) (Whole n) e = cc
-paper_one (Refused x) (Refused y) e = cc (named-number x, named-number y)
+paper_one (Ok m) (Ok n) e = cc
+paper_one (Ok m) (Err y) e = cc
+paper_one (Err x) (Ok n) e = cc
+paper_one (Err x) (Err y) e = cc (named-number x, named-number y)
 
 -- an answer and an output that meet the promise
 pub record Meets (r : Record) (ts gs out : List ℕ) (a : Written) (after : List ℕ) : Type 0 where

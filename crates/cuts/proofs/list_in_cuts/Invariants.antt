@@ -2,7 +2,7 @@ use Rattle.std.proofs.Common.{◌-◌, ◌≤◌, length}
 use Rattle.cuts.proofs.list_in_cuts.Given as goal
 
 abbrev pub invariant-loop-from : goal.invariant-loop-from
-invariant-loop-from g l = l.from ≤ length l.bytes
+invariant-loop-from l = l.from ≤ length l.bytes
 
 abbrev pub decreases-loop-from : goal.decreases-loop-from
-decreases-loop-from g l = length l.bytes - l.from
+decreases-loop-from l = length l.bytes - l.from

@@ -1,39 +1,41 @@
-use Rattle.std.proofs.Common.{◌∙◌, arith}
-use Rattle.layout.specs.Layout.{heartbeat, channel_heartbeat, resend, statistics, security_status, snapshot, index, volume_index, order, trade}
-use Rattle.record.proofs.Choice.{None, reads_as, reads_none}
+use Rattle.std.proofs.Common.{◌∙◌}
+use Rattle.wire.specs.Answer.{accepted}
+use Rattle.record.specs.Record.{unknown}
+use Rattle.record.specs.declared.kind.Kind.TheVariants as kind
+use Rattle.record.proofs.Choice.{reads_by, reads_unlisted}
 use Rattle.record.proofs.read.Goals as goal
 
-pub returns-in-3 : goal.returns-in-3
-returns-in-3 c = c.read.ensures ∙ reads_as _ heartbeat c.in-3.is
+pub returns-in-Ok-Heartbeat : goal.returns-in-Ok-Heartbeat
+returns-in-Ok-Heartbeat c = c.read.ensures ∙ reads_by _ _ kind.Heartbeat _ c.in-Ok-Heartbeat.field-0-is c.in-Ok-Heartbeat.ensures
 
-pub returns-in-390095 : goal.returns-in-390095
-returns-in-390095 c = c.read-in-390095.ensures ∙ reads_as _ channel_heartbeat c.in-390095.is
+pub returns-in-Ok-ChannelHeartbeat : goal.returns-in-Ok-ChannelHeartbeat
+returns-in-Ok-ChannelHeartbeat c = c.read-in-Ok-ChannelHeartbeat.ensures ∙ reads_by _ _ kind.ChannelHeartbeat _ c.in-Ok-ChannelHeartbeat.field-0-is c.in-Ok-ChannelHeartbeat.ensures
 
-pub returns-in-390094 : goal.returns-in-390094
-returns-in-390094 c = c.read-in-390094.ensures ∙ reads_as _ resend c.in-390094.is
+pub returns-in-Ok-Resend : goal.returns-in-Ok-Resend
+returns-in-Ok-Resend c = c.read-in-Ok-Resend.ensures ∙ reads_by _ _ kind.Resend _ c.in-Ok-Resend.field-0-is c.in-Ok-Resend.ensures
 
-pub returns-in-390090 : goal.returns-in-390090
-returns-in-390090 c = c.read-in-390090.ensures ∙ reads_as _ statistics c.in-390090.is
+pub returns-in-Ok-Statistics : goal.returns-in-Ok-Statistics
+returns-in-Ok-Statistics c = c.read-in-Ok-Statistics.ensures ∙ reads_by _ _ kind.Statistics _ c.in-Ok-Statistics.field-0-is c.in-Ok-Statistics.ensures
 
-pub returns-in-390013 : goal.returns-in-390013
-returns-in-390013 c = c.read-in-390013.ensures ∙ reads_as _ security_status c.in-390013.is
+pub returns-in-Ok-SecurityStatus : goal.returns-in-Ok-SecurityStatus
+returns-in-Ok-SecurityStatus c = c.read-in-Ok-SecurityStatus.ensures ∙ reads_by _ _ kind.SecurityStatus _ c.in-Ok-SecurityStatus.field-0-is c.in-Ok-SecurityStatus.ensures
 
-pub returns-in-300111 : goal.returns-in-300111
-returns-in-300111 c = c.read-in-300111.ensures ∙ reads_as _ snapshot c.in-300111.is
+pub returns-in-Ok-Snapshot : goal.returns-in-Ok-Snapshot
+returns-in-Ok-Snapshot c = c.read-in-Ok-Snapshot.ensures ∙ reads_by _ _ kind.Snapshot _ c.in-Ok-Snapshot.field-0-is c.in-Ok-Snapshot.ensures
 
-pub returns-in-309011 : goal.returns-in-309011
-returns-in-309011 c = c.read-in-309011.ensures ∙ reads_as _ index c.in-309011.is
+pub returns-in-Ok-Index : goal.returns-in-Ok-Index
+returns-in-Ok-Index c = c.read-in-Ok-Index.ensures ∙ reads_by _ _ kind.Index _ c.in-Ok-Index.field-0-is c.in-Ok-Index.ensures
 
-pub returns-in-309111 : goal.returns-in-309111
-returns-in-309111 c = c.read-in-309111.ensures ∙ reads_as _ volume_index c.in-309111.is
+pub returns-in-Ok-VolumeIndex : goal.returns-in-Ok-VolumeIndex
+returns-in-Ok-VolumeIndex c = c.read-in-Ok-VolumeIndex.ensures ∙ reads_by _ _ kind.VolumeIndex _ c.in-Ok-VolumeIndex.field-0-is c.in-Ok-VolumeIndex.ensures
 
-pub returns-in-300192 : goal.returns-in-300192
-returns-in-300192 c = c.read-in-300192.ensures ∙ reads_as _ order c.in-300192.is
+pub returns-in-Ok-Order : goal.returns-in-Ok-Order
+returns-in-Ok-Order c = c.read-in-Ok-Order.ensures ∙ reads_by _ _ kind.Order _ c.in-Ok-Order.field-0-is c.in-Ok-Order.ensures
 
-pub returns-in-300191 : goal.returns-in-300191
-returns-in-300191 c = c.read-in-300191.ensures ∙ reads_as _ trade c.in-300191.is
+pub returns-in-Ok-Trade : goal.returns-in-Ok-Trade
+returns-in-Ok-Trade c = c.read-in-Ok-Trade.ensures ∙ reads_by _ _ kind.Trade _ c.in-Ok-Trade.field-0-is c.in-Ok-Trade.ensures
 
-pub returns-in_default : goal.returns-in_default
-returns-in_default c =
-    let none : None c.args.kind = ((((((((((tt, λ e. omega arith), λ e. omega arith), λ e. omega arith), λ e. omega arith), λ e. omega arith), λ e. omega arith), λ e. omega arith), λ e. omega arith), λ e. omega arith), λ e. omega arith) in
-    c.unknown.ensures ∙ reads_none _ none
+pub returns-in-Err : goal.returns-in-Err
+returns-in-Err c =
+    (λ i. record { answer = accepted (unknown c.args.kind); texts = c.no_texts.ensures.0 i; used = c.no_texts.ensures.1 i })
+    ∙ reads_unlisted _ c.in-Err.ensures

@@ -1,22 +1,13 @@
 use native.Mathlib.Omega.{arith}
 use mathlib.Core.Path.{◌∙◌, sym}
-use Rattle.rows.proofs.Shift.{places_yes, closed-there, closed_none, closing-more, closing-last}
+use Rattle.rows.proofs.Shift.{places_yes, closed-there, closed_none}
+use Rattle.rows.proofs.Moved.{closing_copied}
 use Rattle.rows.proofs.close.Goals as goal
 
-pub loop-i-init : goal.loop-i-init
-loop-i-init c = let s = c.args in
+pub returns-then-p-q : goal.returns-then-p-q
+returns-then-p-q c = let s = c.args in
     let h = places_yes s.p s.q c.if-p-q.true in
-    (h.0, h.1, closed-there s.all.now s.p s.q c.if-p-q.true)
-
-pub loop-i-preserved : goal.loop-i-preserved
-loop-i-preserved c = let s = c.args in
-    let k = c.loop-i in
-    (omega arith, k.invariant.1, k.invariant.2 ∙ closing-more k.all k.i s.q (omega arith))
-
-pub returns-after-loop-i : goal.returns-after-loop-i
-returns-after-loop-i c = let s = c.args in
-    let k = c.loop-i in
-    sym (k.invariant.2 ∙ closing-last k.all k.i s.q (omega arith))
+    rw c.copy_within.ensures.after (closing_copied s.all.now s.p s.q h.0 (omega (arith, h, c.told-all)) ∙ sym (closed-there s.all.now s.p s.q c.if-p-q.true))
 
 pub returns-else-p-q : goal.returns-else-p-q
 returns-else-p-q c = let s = c.args in

@@ -6,6 +6,3 @@ use Rattle.rows.proofs.search.Given as goal
 
 abbrev pub invariant-loop-j : goal.invariant-loop-j
 invariant-loop-j l = (l.j ≤ l.count) × (l.count ≤ 32) × (l.at < 8) × (l.b ≡ l.at * 32) × (sought (l.at * 32) (span l.first l.last (l.at * 32) l.count) l.n ≡ sought (l.b + l.j) (span l.first l.last (l.b + l.j) (l.count - l.j)) l.n)
-
-abbrev pub decreases-loop-j : goal.decreases-loop-j
-decreases-loop-j l = l.count - l.j

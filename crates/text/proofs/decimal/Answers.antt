@@ -1,17 +1,12 @@
 use Prim.Native.Nat.{◌+◌, ◌-◌, ◌≤◌}
-use mathlib.Core.Path.{◌≡◌, refl, sym, ap, ◌∙◌}
-use mathlib.Core.List.{append-nil}
+use mathlib.Core.Path.{◌≡◌, sym, ap, ◌∙◌}
 use native.Mathlib.Omega.{arith}
-use lib.Dec.{lit<, lit≤}
 use lib.ListN.{length, take, drop, set, length-drop, length-set}
 use lib.Seq.{take_all}
 use Rattle.wire.specs.Bytes.{put_at}
 use Rattle.text.specs.Text.{decimal_of, offset_behind}
 use Rattle.text.proofs.Decimals.{two_places, fewer_digits, one_more, the_last}
 use Rattle.text.proofs.decimal.Goals as goal
-
-pub loop-rest-init : goal.loop-rest-init
-loop-rest-init c = (refl, lit< tt, lit≤ tt, omega arith, append-nil _)
 
 pub loop-rest-preserved : goal.loop-rest-preserved
 loop-rest-preserved c = let l = c.loop-rest in
@@ -22,9 +17,6 @@ loop-rest-preserved c = let l = c.loop-rest in
       fewer_digits l.i l.rest c.loop-rest-test.true l.invariant.3,
       sym (one_more l.digits l.i l.rest c.loop-rest-test.true l.invariant.3 (omega arith)) ∙ l.invariant.4,
     )
-
-pub slice_bounds-word-end : goal.slice_bounds-word-end
-slice_bounds-word-end c = let l = c.loop-rest in omega (arith, length-set l.digits (l.i - 1) (48 + l.rest), l.invariant.0)
 
 pub returns : goal.returns
 returns c = let l = c.loop-rest in

@@ -1,17 +1,17 @@
-use borrow.Author.Tests.{eq-eqb, ne_eqb}
+use Rattle.std.proofs.Common.{◌≡◌, false, nat_eq, ◌∙◌, rules}
 use Rattle.text.proofs.Pieces.{more}
 use Rattle.text.proofs.last_line.Goals as goal
 
-pub returns-then-refused-eq0 : goal.returns-then-refused-eq0
-returns-then-refused-eq0 c =
-    rw (eq-eqb _ _ c.if-refused-eq0.true) (more _ _ _ _ c.followed-a.ensures c.followed.ensures)
+pub returns-in-0 : goal.returns-in-0
+returns-in-0 c = rw c.in-0.is (more _ _ _ _ c.followed-a.ensures c.followed.ensures)
 
-pub returns-then-refused-eq-TOO_SHORT : goal.returns-then-refused-eq-TOO_SHORT
-returns-then-refused-eq-TOO_SHORT c =
-    rw (ne_eqb _ _ c.if-refused-eq0.false, eq-eqb _ _ c.if-refused-eq-TOO_SHORT.true)
-    (more _ _ _ _ (more _ _ _ _ c.followed-a-2.ensures c.followed-b.ensures) c.followed-then-refused-eq-TOO_SHORT.ensures)
+pub returns-in-1 : goal.returns-in-1
+returns-in-1 c =
+    let e = more _ _ _ _ (more _ _ _ _ c.followed-a-in-1.ensures c.followed-b.ensures) c.followed-in-1.ensures in
+    rw c.in-1.is (rw (c.from.ensures ∙ c.in-1.is) at e)
 
-pub returns : goal.returns
-returns c =
-    rw (ne_eqb _ _ c.if-refused-eq0.false, ne_eqb _ _ c.if-refused-eq-TOO_SHORT.false)
-    (more _ _ _ _ c.followed-a-2.ensures c.followed-2.ensures)
+pub returns-in_default : goal.returns-in_default
+returns-in_default c = let a : nat_eq c.args.refused 0 ≡ false = search rules in
+    let b : nat_eq c.args.refused 1 ≡ false = search rules in
+    let e = more _ _ _ _ c.followed-a-in_default.ensures c.followed-in_default.ensures in
+    rw (a, b) (rw c.from-in_default.ensures at e)

@@ -6,5 +6,5 @@ use Rattle.entries.proofs.entry.index_entry.Goals as goal
 pub returns : goal.returns
 unfolding entry_at values
 returns c =
-    let says = rw (kept c.i64_at.type_inv c.i64_at.ensures, c.be2-characters.ensures) at c.said_in_index-says.ensures in
-    λ i. record { characters = c.be2-characters.ensures i; says = says i }
+    let says = rw (kept c.at.type_inv c.at.ensures, c.at-characters.ensures) at c.said_in_index-says.ensures in
+    λ i. record { characters = c.at-characters.ensures i; says = says i }

@@ -7,6 +7,6 @@ pub returns : goal.returns
 unfolding entry_at values
 returns c =
     let says =
-    rw (kept c.i64_at.type_inv c.i64_at.ensures, kept c.i64_at-2.type_inv c.i64_at-2.ensures, kept c.i64_at-3.type_inv c.i64_at-3.ensures, c.be2.ensures, c.be4.ensures, c.be2-characters.ensures) at c.said-says.ensures
+    rw (kept c.at.type_inv c.at.ensures, kept c.at-2.type_inv c.at-2.ensures, kept c.at-4.type_inv c.at-4.ensures, c.at-3.ensures, c.at-5.ensures, c.at-characters.ensures) at c.said-says.ensures
     in
-    λ i. record { characters = c.be2-characters.ensures i; says = says i }
+    λ i. record { characters = c.at-characters.ensures i; says = says i }

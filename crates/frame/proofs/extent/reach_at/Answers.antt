@@ -6,12 +6,12 @@ pub returns-then-s-h : goal.returns-then-s-h
 returns-then-s-h c = sym (reaches (in_header c.if-s-h.true))
 
 pub returns-then-limit-len : goal.returns-then-limit-len
-returns-then-limit-len c = sym (reaches (above c.if-s-h.false (rw c.be4-len.ensures at c.if-limit-len.true)))
+returns-then-limit-len c = sym (reaches (above c.if-s-h.false (rw c.at-len.ensures at c.if-limit-len.true)))
 
 pub returns-then-s-end : goal.returns-then-s-end
-returns-then-s-end c = let e = c.be4-len.ensures in
+returns-then-s-end c = let e = c.at-len.ensures in
     sym (reaches (in_body c.if-s-h.false (rw e at c.if-limit-len.false) (rw e at c.if-s-end.true)))
 
 pub returns : goal.returns
-returns c = let e = c.be4-len.ensures in
+returns c = let e = c.at-len.ensures in
     rw e (sym (reaches (at-end c.if-s-h.false (rw e at c.if-limit-len.false) (rw e at c.if-s-end.false))))

@@ -6,13 +6,13 @@ use Rattle.layout.specs.Layout.{size, ranges}
 use Rattle.layout.proofs.Free.{free-entry-type, free-level, free-group-count, free_stock_number, free_switch_type, free-text, order_count_as}
 use Rattle.layout.proofs.group.fields_in.Goals as goal
 
-pub slice_bounds-be2-end : goal.slice_bounds-be2-end
+pub slice_bounds-at-end : goal.slice_bounds-at-end
 unfolding size
-slice_bounds-be2-end c = let h = rw c.in-Switches.is at c.requires in omega arith
+slice_bounds-at-end c = let h = rw c.in-Switches.is at c.requires in omega arith
 
-pub slice_bounds-be8-end : goal.slice_bounds-be8-end
+pub slice_bounds-at-end-in-IndexEntries : goal.slice_bounds-at-end-in-IndexEntries
 unfolding size
-slice_bounds-be8-end c = let h = rw c.in-IndexEntries.is at c.requires in omega arith
+slice_bounds-at-end-in-IndexEntries c = let h = rw c.in-IndexEntries.is at c.requires in omega arith
 
 pub slice_bounds-f-end : goal.slice_bounds-f-end
 unfolding size

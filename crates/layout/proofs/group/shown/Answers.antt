@@ -6,9 +6,9 @@ use Rattle.layout.specs.Layout.{size}
 use Rattle.layout.specs.Group as of
 use Rattle.layout.proofs.group.shown.Goals as goal
 
-pub slice_bounds-be4-end : goal.slice_bounds-be4-end
+pub slice_bounds-at-end : goal.slice_bounds-at-end
 unfolding size
-slice_bounds-be4-end c = let h = rw c.in-SnapshotEntries.is at c.requires in omega arith
+slice_bounds-at-end c = let h = rw c.in-SnapshotEntries.is at c.requires in omega arith
 
 pub returns-in-Streams : goal.returns-in-Streams
 unfolding of.shown size
@@ -26,4 +26,4 @@ pub returns-in-SnapshotEntries : goal.returns-in-SnapshotEntries
 unfolding of.shown size
 returns-in-SnapshotEntries c =
     rw c.in-SnapshotEntries.is
-    (c.be4.ensures ∙ be_at-part c.args.e.now 0 32 28 4 (lit≤ tt), search rules)
+    (c.at.ensures ∙ be_at-part c.args.e.now 0 32 28 4 (lit≤ tt), search rules)

@@ -2,15 +2,13 @@ use Rattle.std.proofs.Common.{refl, ap}
 use Rattle.record.proofs.Tell.{kept}
 use Rattle.orizhgum.specs.Quantity.{quantity_answer}
 use Rattle.orizhgum.proofs.entry.orizhgum_quantity.Goals as goal
+use Rattle.orizhgum.proofs.entry.orizhgum_quantity.Goals.{in-Ok-Some, in-Ok-None, in-Err}
 
-pub returns-in-Found : goal.returns-in-Found
+pub returns : goal.returns
 unfolding quantity_answer
-returns-in-Found c = rw (kept c.in-Found.known_told-1-own.given.0.1 refl) (ap quantity_answer c.in-Found.ensures)
-
-pub returns-in-NoSuchEntry : goal.returns-in-NoSuchEntry
-unfolding quantity_answer
-returns-in-NoSuchEntry c = ap quantity_answer c.in-NoSuchEntry.ensures
-
-pub returns-in-Refused : goal.returns-in-Refused
-unfolding quantity_answer
-returns-in-Refused c = rw c.number.ensures (ap quantity_answer c.in-Refused.ensures)
+returns c =
+    elim c.match-quantity_of.branch [
+      | in-Ok-Some w ↦ let t = rw (w.in-Ok-Some.is, w.in-Ok-Some.field-0-is) at c.quantity_of.type_inv in let k = kept {z = w.in-Ok-Some.quantity} t.1.1.1.1.0.1.1.1.1.0.1 refl in rw (w.answer-is, k, k) (ap quantity_answer (rw w.in-Ok-Some.field-0-is at w.in-Ok-Some.ensures))
+      | in-Ok-None w ↦ rw w.answer-is (ap quantity_answer (rw w.in-Ok-None.field-0-is at w.in-Ok-None.ensures))
+      | in-Err w ↦ rw (w.answer-is, w.from.ensures) (ap quantity_answer w.in-Err.ensures)
+    ]

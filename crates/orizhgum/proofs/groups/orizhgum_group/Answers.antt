@@ -1,30 +1,15 @@
-use Prim.Native.Nat.{ℕ}
-use borrow.Author.Rules.{rules}
-use lib.IntN.{ℤ}
-use mathlib.Core.List.{List}
-use Rattle.record.specs.Asked.{WithTexts, Asked}
-use Rattle.record.specs.Paper as record_paper
-use Rattle.record.specs.declared.group.GroupAnswer.{GroupAnswer}
-use Rattle.record.proofs.Tell.{with_texts_lem}
+use Rattle.std.proofs.Common.{ap, ◌∙◌}
 use Rattle.orizhgum.specs.Groups.{group_answer}
-use Rattle.wire.proofs.Answer.{answers}
 use Rattle.orizhgum.proofs.groups.orizhgum_group.Goals as goal
 
-reading : List ℕ → ℕ → GroupAnswer → WithTexts (Asked (List ℤ))
-reading b n a = with_texts_lem (record_paper.means_group_answer a) b n
+pub returns-in-Ok-Some : goal.returns-in-Ok-Some
+unfolding group_answer
+returns-in-Ok-Some c = c.found.ensures ∙ ap group_answer (rw c.in-Ok-Some.field-0-is at c.in-Ok-Some.ensures)
 
-pub returns-in-Stream : goal.returns-in-Stream
-unfolding reading group_answer
-returns-in-Stream c = answers (reading c.group_of-r.result.texts.bytes c.group_of-r.result.texts.length) group_answer c.in-Stream.is c.group_of-r.ensures
+pub returns-in-Ok-None : goal.returns-in-Ok-None
+unfolding group_answer
+returns-in-Ok-None c = ap group_answer (rw c.in-Ok-None.field-0-is at c.in-Ok-None.ensures)
 
-pub returns-in-Switch : goal.returns-in-Switch
-unfolding reading group_answer
-returns-in-Switch c = answers (reading c.group_of-r.result.texts.bytes c.group_of-r.result.texts.length) group_answer c.in-Switch.is c.group_of-r.ensures
-
-pub returns-in-NoSuchEntry : goal.returns-in-NoSuchEntry
-unfolding reading group_answer
-returns-in-NoSuchEntry c = answers (reading c.group_of-r.result.texts.bytes c.group_of-r.result.texts.length) group_answer c.in-NoSuchEntry.is c.group_of-r.ensures
-
-pub returns-in-Refused : goal.returns-in-Refused
-unfolding reading group_answer
-returns-in-Refused c = rw c.number.ensures (answers (reading c.group_of-r.result.texts.bytes c.group_of-r.result.texts.length) group_answer c.in-Refused.is c.group_of-r.ensures)
+pub returns-in-Err : goal.returns-in-Err
+unfolding group_answer
+returns-in-Err c = rw c.from.ensures (ap group_answer c.in-Err.ensures)

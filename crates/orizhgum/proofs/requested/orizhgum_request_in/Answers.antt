@@ -1,34 +1,32 @@
-use borrow.Author.Rules.{rules}
-use Rattle.orizhgum.proofs.Lent.{meets}
+use Rattle.std.proofs.Common.{Err, refl, ap, ◌≡◌, ◌∙◌}
+use Rattle.wire.specs.Number.{answer_number}
+use Rattle.tracker.specs.Request.{means_requested}
+use Rattle.tracker.specs.declared.RequestRefusal.{RequestRefusal}
+use Rattle.tracker.specs.declared.RequestRefusal.TheVariants.{Malformed, NoSuchChannel, OutputShort}
 use Rattle.orizhgum.specs.Requested.{request_answer}
+use Rattle.orizhgum.specs.declared.written.WriteAnswer.{WriteAnswer}
 use Rattle.orizhgum.proofs.requested.orizhgum_request_in.Goals as goal
 
-pub returns-in-Written : goal.returns-in-Written
+-- a refusal by its number
+numbered : (why : RequestRefusal) → ◌≡◌ {A = WriteAnswer} (record { answer = answer_number (means_requested (Err why)); written = 0 }) (request_answer (means_requested (Err why)))
 unfolding request_answer
-returns-in-Written c = let r = c.request_in-requested.ensures in
-    let m = meets _ _ _ c.in-Written.is r.result_value r.out_after in
-    record { value = m.0; out_after = m.1 }
+numbered Malformed = refl
+numbered NoSuchChannel = refl
+numbered OutputShort = refl
 
-pub returns-in-NothingMissing : goal.returns-in-NothingMissing
+pub returns-in-Ok-Some-clause-value : goal.returns-in-Ok-Some-clause-value
 unfolding request_answer
-returns-in-NothingMissing c = let r = c.request_in-requested.ensures in
-    let m = meets _ _ _ c.in-NothingMissing.is r.result_value r.out_after in
-    record { value = m.0; out_after = m.1 }
+returns-in-Ok-Some-clause-value c =
+    let r = c.in-Ok-Some.ensures in
+    ap request_answer (rw c.in-Ok-Some.field-0-is at r.result_value)
 
-pub returns-in-Malformed : goal.returns-in-Malformed
+pub returns-in-Ok-None-clause-value : goal.returns-in-Ok-None-clause-value
 unfolding request_answer
-returns-in-Malformed c = let r = c.request_in-requested.ensures in
-    let m = meets _ _ _ c.in-Malformed.is r.result_value r.out_after in
-    record { value = rw (c.number.ensures, c.in-Malformed.is) m.0; out_after = m.1 }
+returns-in-Ok-None-clause-value c =
+    let r = c.in-Ok-None.ensures in
+    ap request_answer (rw c.in-Ok-None.field-0-is at r.result_value)
 
-pub returns-in-NoSuchChannel : goal.returns-in-NoSuchChannel
-unfolding request_answer
-returns-in-NoSuchChannel c = let r = c.request_in-requested.ensures in
-    let m = meets _ _ _ c.in-NoSuchChannel.is r.result_value r.out_after in
-    record { value = rw (c.number-in-NoSuchChannel.ensures, c.in-NoSuchChannel.is) m.0; out_after = m.1 }
-
-pub returns-in-OutputShort : goal.returns-in-OutputShort
-unfolding request_answer
-returns-in-OutputShort c = let r = c.request_in-requested.ensures in
-    let m = meets _ _ _ c.in-OutputShort.is r.result_value r.out_after in
-    record { value = rw (c.number-in-OutputShort.ensures, c.in-OutputShort.is) m.0; out_after = m.1 }
+pub returns-in-Err-clause-value : goal.returns-in-Err-clause-value
+returns-in-Err-clause-value c =
+    let r = c.in-Err.ensures in
+    rw c.from.ensures (numbered c.in-Err.why ∙ ap request_answer r.result_value)

@@ -10,13 +10,13 @@ pub returns-in-300111 : goal.returns-in-300111
 unfolding step
 returns-in-300111 c =
     let l = named_as snapshot c.in-300111.is in
-    record { value = rw l c.in_snapshot.ensures.value; price_after = rw l c.in_snapshot.ensures.price_after }
+    record { value = rw l c.step_in.ensures.value; price_after = rw l c.step_in.ensures.price_after }
 
 pub returns-in-309011 : goal.returns-in-309011
 unfolding step
 returns-in-309011 c =
     let l = named_as index c.in-309011.is in
-    record { value = rw l c.in_index.ensures.value; price_after = rw l c.in_index.ensures.price_after }
+    record { value = rw l c.step_in-in-309011.ensures.value; price_after = rw l c.step_in-in-309011.ensures.price_after }
 
 pub returns-in_default : goal.returns-in_default
 unfolding step_answer priced_left

@@ -1,30 +1,29 @@
-use Rattle.std.proofs.Common.{sym, ◌∙◌, arith}
-use Rattle.wire.specs.Answer.{refused}
-use Rattle.frame.specs.Framing as framing
+use Rattle.std.proofs.Common.{◌≡◌, IsErrAnd, sym, ◌∙◌, arith}
 use Rattle.frame.specs.Framing.{header_width, body_limit}
 use Rattle.frame.proofs.Framing.{Accepted, told}
-use Rattle.record.proofs.Tell.{frame-whole, frame_refused, answered}
+use Rattle.record.specs.declared.framed.FrameRefusal.TheVariants.{Frame, Body}
+use Rattle.record.proofs.Tell.{frame-whole, frame_refused_as, body_refused_as}
 use Rattle.record.proofs.framed.read_frame.Goals as goal
+use Rattle.record.proofs.framed.read_frame.Goals.{In_ok-f}
 
-pub overflow_add-end : goal.overflow_add-end
-overflow_add-end c = let whole : Accepted header_width body_limit c.args.s.now c.in-Whole.f = told header_width body_limit _ _ _ c.read.ensures c.in-Whole.is in omega arith
+whole : (c : In_ok-f) → Accepted header_width body_limit c.args.s.now c.in_ok-f.f
+whole c = told header_width body_limit _ _ _ c.read.ensures c.in_ok-f.was
+
+pub overflow_add-f : goal.overflow_add-f
+overflow_add-f c = let a = whole c in omega arith
 
 pub slice_bounds-read-end : goal.slice_bounds-read-end
-slice_bounds-read-end c = let whole : Accepted header_width body_limit c.args.s.now c.in-Whole.f = told header_width body_limit _ _ _ c.read.ensures c.in-Whole.is in omega arith
+slice_bounds-read-end c = let a = whole c in omega arith
 
-pub returns-in-Read : goal.returns-in-Read
-returns-in-Read c =
-    answered c.read-r.result.texts.bytes c.read-r.result.texts.length c.in-Read.is
-    ∙ c.read-r.ensures
-    ∙ frame-whole c.args.s.now c.in-Whole.f (sym c.in-Whole.ensures)
+pub returns-in_err-f : goal.returns-in_err-f
+returns-in_err-f c =
+    let e : IsErrAnd c.from_residual.result (λ x. x ≡ Frame c.in_err-f.field-0.0) = c.from_residual.ensures.1 in
+    frame_refused_as c.args.s.now c.from_residual.result _ e c.in_err-f.ensures
 
-pub returns-in-Refused-answer : goal.returns-in-Refused-answer
-returns-in-Refused-answer c =
-    answered c.read-r.result.texts.bytes c.read-r.result.texts.length c.in-Refused-answer.is
-    ∙ c.read-r.ensures
-    ∙ frame-whole c.args.s.now c.in-Whole.f (sym c.in-Whole.ensures)
+pub returns-in_err-read : goal.returns-in_err-read
+returns-in_err-read c =
+    let e : IsErrAnd c.from_residual-in_err-read.result (λ x. x ≡ Body c.in_err-read.field-0.0) = c.from_residual-in_err-read.ensures.1 in
+    body_refused_as c.args.s.now c.in_ok-f.f (sym c.in_ok-f.ensures) c.from_residual-in_err-read.result _ e c.in_err-read.ensures
 
-pub returns-in-Refused : goal.returns-in-Refused
-returns-in-Refused c =
-    (λ i. record { answer = refused (framing.frame_refusal c.in-Refused.x) (framing.refusal_values c.in-Refused.x); texts = c.no_texts.ensures.0 i; used = c.no_texts.ensures.1 i })
-    ∙ frame_refused c.args.s.now (sym c.in-Refused.ensures)
+pub returns : goal.returns
+returns c = c.in_ok-read.ensures ∙ frame-whole c.args.s.now c.in_ok-f.f (sym c.in_ok-f.ensures)

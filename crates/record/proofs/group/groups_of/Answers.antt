@@ -1,53 +1,37 @@
-use Rattle.std.proofs.Common.{sym, ◌∙◌, arith}
-use lib.Dec.{lit≤}
-use Rattle.layout.specs.Layout.{statistics, security_status, snapshot, index, size}
-use Rattle.layout.proofs.Walk.{has_all}
-use Rattle.record.proofs.Choice.{judges_as}
-use Rattle.record.proofs.Grouped.{groups_as_lem, groups-refused, groups_rest}
+use Rattle.std.proofs.Common.{◌∙◌}
+use Rattle.record.specs.declared.kind.Kind.TheVariants as kind
+use Rattle.record.proofs.Choice.{parts_by, parts_unlisted}
 use Rattle.record.proofs.group.groups_of.Goals as goal
 
-pub behind-requires : goal.behind-requires
-unfolding size
-behind-requires c =
-    let w = has_all statistics c.args.body.now (judges_as _ statistics c.in-390090.is ∙ sym c.in-Accepted.ensures) in
-    ((lit≤ tt, w.long), w.groups)
+pub returns-in-Ok-Heartbeat : goal.returns-in-Ok-Heartbeat
+returns-in-Ok-Heartbeat c = c.behind.ensures ∙ parts_by _ _ kind.Heartbeat _ c.in-Ok-Heartbeat.field-0-is c.in-Ok-Heartbeat.ensures
 
-pub behind-requires-in-390013 : goal.behind-requires-in-390013
-unfolding size
-behind-requires-in-390013 c =
-    let w = has_all security_status c.args.body.now (judges_as _ security_status c.in-390013.is ∙ sym c.in-Accepted.ensures) in
-    ((lit≤ tt, w.long), w.groups)
+pub returns-in-Ok-ChannelHeartbeat : goal.returns-in-Ok-ChannelHeartbeat
+returns-in-Ok-ChannelHeartbeat c = c.behind-in-Ok-ChannelHeartbeat.ensures ∙ parts_by _ _ kind.ChannelHeartbeat _ c.in-Ok-ChannelHeartbeat.field-0-is c.in-Ok-ChannelHeartbeat.ensures
 
-pub behind-requires-in-300111 : goal.behind-requires-in-300111
-unfolding size
-behind-requires-in-300111 c =
-    let w = has_all snapshot c.args.body.now (judges_as _ snapshot c.in-300111.is ∙ sym c.in-Accepted.ensures) in
-    ((lit≤ tt, w.long), w.groups)
+pub returns-in-Ok-Resend : goal.returns-in-Ok-Resend
+returns-in-Ok-Resend c = c.behind-in-Ok-Resend.ensures ∙ parts_by _ _ kind.Resend _ c.in-Ok-Resend.field-0-is c.in-Ok-Resend.ensures
 
-pub behind-requires-in-309011 : goal.behind-requires-in-309011
-unfolding size
-behind-requires-in-309011 c =
-    let w = has_all index c.args.body.now (judges_as _ index c.in-309011.is ∙ sym c.in-Accepted.ensures) in
-    ((lit≤ tt, w.long), w.groups)
+pub returns-in-Ok-Statistics : goal.returns-in-Ok-Statistics
+returns-in-Ok-Statistics c = c.behind-in-Ok-Statistics.ensures ∙ parts_by _ _ kind.Statistics _ c.in-Ok-Statistics.field-0-is c.in-Ok-Statistics.ensures
 
-pub returns-in-390090 : goal.returns-in-390090
-unfolding size
-returns-in-390090 c = c.behind.ensures ∙ groups_as_lem _ _ statistics c.in-390090.is (judges_as _ statistics c.in-390090.is ∙ sym c.in-Accepted.ensures)
+pub returns-in-Ok-SecurityStatus : goal.returns-in-Ok-SecurityStatus
+returns-in-Ok-SecurityStatus c = c.behind-in-Ok-SecurityStatus.ensures ∙ parts_by _ _ kind.SecurityStatus _ c.in-Ok-SecurityStatus.field-0-is c.in-Ok-SecurityStatus.ensures
 
-pub returns-in-390013 : goal.returns-in-390013
-unfolding size
-returns-in-390013 c = c.behind-in-390013.ensures ∙ groups_as_lem _ _ security_status c.in-390013.is (judges_as _ security_status c.in-390013.is ∙ sym c.in-Accepted.ensures)
+pub returns-in-Ok-Snapshot : goal.returns-in-Ok-Snapshot
+returns-in-Ok-Snapshot c = c.behind-in-Ok-Snapshot.ensures ∙ parts_by _ _ kind.Snapshot _ c.in-Ok-Snapshot.field-0-is c.in-Ok-Snapshot.ensures
 
-pub returns-in-300111 : goal.returns-in-300111
-unfolding size
-returns-in-300111 c = c.behind-in-300111.ensures ∙ groups_as_lem _ _ snapshot c.in-300111.is (judges_as _ snapshot c.in-300111.is ∙ sym c.in-Accepted.ensures)
+pub returns-in-Ok-Index : goal.returns-in-Ok-Index
+returns-in-Ok-Index c = c.behind-in-Ok-Index.ensures ∙ parts_by _ _ kind.Index _ c.in-Ok-Index.field-0-is c.in-Ok-Index.ensures
 
-pub returns-in-309011 : goal.returns-in-309011
-unfolding size
-returns-in-309011 c = c.behind-in-309011.ensures ∙ groups_as_lem _ _ index c.in-309011.is (judges_as _ index c.in-309011.is ∙ sym c.in-Accepted.ensures)
+pub returns-in-Ok-VolumeIndex : goal.returns-in-Ok-VolumeIndex
+returns-in-Ok-VolumeIndex c = c.behind-in-Ok-VolumeIndex.ensures ∙ parts_by _ _ kind.VolumeIndex _ c.in-Ok-VolumeIndex.field-0-is c.in-Ok-VolumeIndex.ensures
 
-pub returns-in_default : goal.returns-in_default
-returns-in_default c = groups_rest _ c.args.body.now (λ e. omega arith) (λ e. omega arith) (λ e. omega arith) (λ e. omega arith) (sym c.in-Accepted.ensures)
+pub returns-in-Ok-Order : goal.returns-in-Ok-Order
+returns-in-Ok-Order c = c.behind-in-Ok-Order.ensures ∙ parts_by _ _ kind.Order _ c.in-Ok-Order.field-0-is c.in-Ok-Order.ensures
 
-pub returns-in-Refused : goal.returns-in-Refused
-returns-in-Refused c = groups-refused _ c.args.body.now (sym c.in-Refused.ensures)
+pub returns-in-Ok-Trade : goal.returns-in-Ok-Trade
+returns-in-Ok-Trade c = c.behind-in-Ok-Trade.ensures ∙ parts_by _ _ kind.Trade _ c.in-Ok-Trade.field-0-is c.in-Ok-Trade.ensures
+
+pub returns-in-Err : goal.returns-in-Err
+returns-in-Err c = parts_unlisted _ _ c.in-Err.ensures

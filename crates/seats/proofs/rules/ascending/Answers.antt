@@ -3,17 +3,17 @@ use mathlib.Core.Path.{refl, ◌∙◌, sym}
 use Rattle.seats.proofs.Ascends.{ascends_low, ascends_pass, ascends-end}
 use Rattle.seats.proofs.rules.ascending.Goals as goal
 
-pub loop-i-init : goal.loop-i-init
-loop-i-init c = (omega arith, refl)
+pub loop-channel-init : goal.loop-channel-init
+loop-channel-init c = (omega arith, refl)
 
 pub returns-then-number-low : goal.returns-then-number-low
-returns-then-number-low c = let k = c.loop-i in
-    sym (k.invariant.1 ∙ ascends_low _ k.i (omega arith) k.low (omega arith))
+returns-then-number-low c = let k = c.loop-channel in
+    sym (k.invariant.1 ∙ ascends_low _ k.channel-index (omega arith) k.low (omega arith))
 
-pub loop-i-preserved : goal.loop-i-preserved
-loop-i-preserved c = let k = c.loop-i in
-    (omega arith, rw c.wide-number.ensures.0 (k.invariant.1 ∙ ascends_pass _ k.i (omega arith) k.low (omega arith)))
+pub loop-channel-preserved : goal.loop-channel-preserved
+loop-channel-preserved c = let k = c.loop-channel in
+    (omega arith, rw c.from-number.ensures (k.invariant.1 ∙ ascends_pass _ k.channel-index (omega arith) k.low (omega arith)))
 
 pub returns : goal.returns
-returns c = let k = c.loop-i in
-    sym (k.invariant.1 ∙ ascends-end _ k.i k.low (omega arith))
+returns c = let k = c.loop-channel in
+    sym (k.invariant.1 ∙ ascends-end _ k.channel-index k.low (omega arith))

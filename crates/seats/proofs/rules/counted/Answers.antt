@@ -19,21 +19,21 @@ use Rattle.seats.proofs.rules.counted.Goals as goal
 tested : (z : ℤ) {b : Bool} → mag z < 9223372036854775808 → lt_z (to_z w64 (of_z w64 z)) (pos 1) ≡ b → ltb (natural z) 1 ≡ b
 tested z h e = sym (below_one z) ∙ (rw (to_z-of_z {w = w64} {z = z} (record { sfits = h })) at e)
 
-pub loop-i-init : goal.loop-i-init
-loop-i-init c = (omega arith, refl)
+pub loop-number-init : goal.loop-number-init
+loop-number-init c = (omega arith, refl)
 
-pub returns-then-from-i : goal.returns-then-from-i
-returns-then-from-i c = let l = c.args.from.now in
-    let k = c.loop-i in
-    let h : mag (get_or l k.i (pos 0)) < 9223372036854775808 = omega arith in
-    sym (k.invariant.1 ∙ firsts_low l k.i (omega arith) (ltb-true _ 1 (tested (get_or l k.i (pos 0)) h c.if-from-i.true)))
+pub returns-then-number : goal.returns-then-number
+returns-then-number c = let l = c.args.from.now in
+    let k = c.loop-number in
+    let h : mag (get_or l k.number-index (pos 0)) < 9223372036854775808 = omega arith in
+    sym (k.invariant.1 ∙ firsts_low l k.number-index (omega arith) (ltb-true _ 1 (tested (get_or l k.number-index (pos 0)) h c.if-number.true)))
 
-pub loop-i-preserved : goal.loop-i-preserved
-loop-i-preserved c = let l = c.args.from.now in
-    let k = c.loop-i in
-    let h : mag (get_or l k.i (pos 0)) < 9223372036854775808 = omega arith in
-    (omega arith, k.invariant.1 ∙ firsts_pass l k.i (omega arith) (ltb-false _ 1 (tested (get_or l k.i (pos 0)) h c.if-from-i.false)) (natural_most (get_or l k.i (pos 0)) (record { sfits = h })))
+pub loop-number-preserved : goal.loop-number-preserved
+loop-number-preserved c = let l = c.args.from.now in
+    let k = c.loop-number in
+    let h : mag (get_or l k.number-index (pos 0)) < 9223372036854775808 = omega arith in
+    (omega arith, k.invariant.1 ∙ firsts_pass l k.number-index (omega arith) (ltb-false _ 1 (tested (get_or l k.number-index (pos 0)) h c.if-number.false)) (natural_most (get_or l k.number-index (pos 0)) (record { sfits = h })))
 
 pub returns : goal.returns
-returns c = let k = c.loop-i in
-    sym (k.invariant.1 ∙ firsts-end _ k.i (omega arith))
+returns c = let k = c.loop-number in
+    sym (k.invariant.1 ∙ firsts-end _ k.number-index (omega arith))

@@ -1,17 +1,12 @@
-use native.Mathlib.Omega.{arith}
-use mathlib.Core.Path.{refl, ◌∙◌, sym}
-use Rattle.seats.proofs.Heads.{marks-more, marks-end}
+use mathlib.Core.Path.{◌≡◌}
+use lib.Bits.{bit_or}
+use Rattle.std.specs.List.{fold}
+use Rattle.std.proofs.Common.{rules}
+use Rattle.std.proofs.iter.runs.Made.{chains}
+use Rattle.seats.proofs.Walks.{marks_all}
 use Rattle.seats.proofs.rules.marked.Goals as goal
-
-pub loop-i-init : goal.loop-i-init
-loop-i-init c = (omega arith, refl)
-
-pub loop-i-preserved : goal.loop-i-preserved
-loop-i-preserved c = let s = c.args in
-    let k = c.loop-i in
-    (omega arith, k.invariant.1 ∙ marks-more s.ended.now k.i 8 k.bits (omega arith))
 
 pub returns : goal.returns
 returns c = let s = c.args in
-    let k = c.loop-i in
-    sym (k.invariant.1 ∙ marks-end s.ended.now k.i 8 k.bits (omega arith))
+    let e : c.fold.result ≡ fold bit_or 0 s.ended.now = search (rules, chains) in
+    rw e (marks_all s.ended.now c.told-ended)

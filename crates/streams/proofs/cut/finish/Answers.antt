@@ -1,4 +1,4 @@
-use Rattle.std.proofs.Common.{◌≡◌, ℕ, ◌+◌, ◌-◌, ◌≤◌, List, ◌∙◌, arith}
+use Rattle.std.proofs.Common.{ℕ, ◌≤◌, List, sym, ◌∙◌, arith, length-take-le}
 use lib.Dec.{lit≤}
 use Rattle.frame.specs.Framing.{header_width, body_limit}
 use Rattle.streams.specs.Steps.{Brought}
@@ -10,30 +10,23 @@ ends :
     Ends header_width body_limit buffer held cut lacks
 ends buffer held lacks cut q = end-comes header_width body_limit buffer held lacks cut (lit≤ tt) q.0 q.1
 
-less_none : (n : ℕ) → n - 0 ≡ n
-less_none n = omega arith
-
 pub keep-requires : goal.keep-requires
-keep-requires c =
-    let a = c.args in
-    rw (less_none a.lacks) (ends a.buffer.now a.held a.lacks a.cut.now c.requires).fits
+keep-requires c = let a = c.args in (ends a.buffer.now a.held a.lacks a.cut.now c.requires).fits
 
 pub slice_bounds-judge-end : goal.slice_bounds-judge-end
 slice_bounds-judge-end c =
     let a = c.args in
     let e = ends a.buffer.now a.held a.lacks a.cut.now c.requires in
-    let f = rw (less_none a.lacks) at c.keep.ensures in
-    rw f (omega (arith, e.room, e.size))
+    rw c.keep.ensures (omega (arith, e.room, e.size))
+
+pub slice_bounds-judge-end-2 : goal.slice_bounds-judge-end-2
+slice_bounds-judge-end-2 c = sym (length-take-le _ _ (slice_bounds-judge-end c))
 
 pub judge-requires : goal.judge-requires
-judge-requires c =
-    let a = c.args in
-    let f = rw (less_none a.lacks) at c.keep.ensures in
-    rw (less_none (a.held + a.lacks), f) (ends a.buffer.now a.held a.lacks a.cut.now c.requires).enough
+judge-requires c = let a = c.args in rw c.keep.ensures (ends a.buffer.now a.held a.lacks a.cut.now c.requires).enough
 
 pub returns : goal.returns
 returns c =
     let a = c.args in
     let e = ends a.buffer.now a.held a.lacks a.cut.now c.requires in
-    let f = rw (less_none a.lacks) at c.keep.ensures in
-    record { result_value = rw (less_none (a.held + a.lacks), f) at c.judge.ensures ∙ e.told; buffer_after = f ∙ e.kept }
+    record { result_value = rw c.keep.ensures at c.judge.ensures ∙ e.told; buffer_after = c.keep.ensures ∙ e.kept }

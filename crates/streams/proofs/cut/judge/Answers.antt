@@ -5,8 +5,8 @@ use Rattle.frame.specs.Framing.{header_width, body_limit, frame_refusal, means_f
 use Rattle.streams.proofs.States.{not-one}
 use Rattle.streams.proofs.cut.judge.Goals as goal
 
-pub returns-in-Refused : goal.returns-in-Refused
-returns-in-Refused c =
-    let e = sym c.read.ensures ∙ ap means_framed c.in-Refused.is in
+pub returns-in-Err : goal.returns-in-Err
+returns-in-Err c =
+    let e = sym c.read.ensures ∙ ap means_framed c.in-Err.is in
     let z = not-one header_width body_limit c.args.bytes.now c.requires.enough e in
-    c.stopped.ensures ∙ rw (e, ne_eqb (frame_refusal c.in-Refused.why) too_short z)
+    c.stopped.ensures ∙ rw (e, ne_eqb (frame_refusal c.in-Err.why) too_short z)

@@ -1,107 +1,88 @@
 -- `streams::cut::lead` meets its contract: behind the header the cut ends before what is missing then, or brings it.
 -- Assumes nothing.
-use Rattle.std.proofs.Common.{◌≡◌, ℕ, ◌+◌, ◌-◌, ◌≤◌, List, ◌++◌, length, take, drop, ◌∙◌, arith}
+use Rattle.std.proofs.Common.{◌≡◌, ℕ, ◌+◌, ◌-◌, ◌<◌, ◌≤◌, List, ◌++◌, length, take, drop, sym, ◌∙◌, arith, length-take-le}
 use lib.Dec.{lit≤}
 use Rattle.wire.specs.Bytes.{splice}
 use Rattle.frame.specs.Framing.{header_width, body_limit}
 use Rattle.frame.specs.Wanting.{wanting}
-use Rattle.streams.specs.Steps.{Brought}
-use Rattle.streams.proofs.Pushes.{Ends, first_front, go_less, less_fits, rest_comes, rest_fits, rest_bytes}
+use Rattle.streams.specs.Stream.{read_on, kept_on}
+use Rattle.streams.specs.Steps.{Brought, Judgeable, more_told, judged}
+use Rattle.streams.proofs.Pushes.{first_front, go_less, rest_comes, rest_fits, rest_bytes}
 use Rattle.streams.proofs.cut.lead.Goals as goal
 
-less_none : (n : ℕ) → n - 0 ≡ n
-less_none n = omega arith
-
 module _ (buffer : List ℕ) (held : ℕ) (cut : List ℕ) (q : Brought header_width body_limit buffer held (header_width - held) cut) where
-  -- ---- the header
-
   abbrev came : ℕ
   came = header_width - held
 
-  abbrev first : List ℕ
-  first = splice buffer held (take came cut)
+  -- the buffer with the header, and what is missing then
+  module _ (new head tail : List ℕ) (w : ℕ) (a : head ≡ take came cut) (b : tail ≡ drop came cut) (e : new ≡ splice buffer held head)
+      (v : w ≡ wanting header_width body_limit (take (held + came) new)) where
+    rest-is : w ≡ wanting header_width body_limit (take held buffer ++ take came cut)
+    rest-is = rw (e, a, first_front header_width body_limit buffer held came cut (lit≤ tt) q) at v
 
-  first-is : (new : List ℕ) → new ≡ splice buffer held (take (came - 0) cut) → new ≡ first
-  first-is new e = rw (less_none came) at e
+    -- less of it comes
+    less :
+        length tail < w →
+        (held + came + length tail ≤ length new)
+        × (more_told (length cut) (held + length cut) (w - length tail) ≡ read_on header_width body_limit (take held buffer) cut)
+        × (splice new (held + came) tail ≡ kept_on header_width body_limit (take held buffer) cut buffer)
+    less i = rw (e, a, b, rest-is) (go_less header_width body_limit buffer held came cut (lit≤ tt) q (rw (b, rest-is) at i))
 
-  -- ---- what is missing then
+    -- all of it comes
+    module _ (i : w ≤ length tail) where
+      fits : held + came + length (take w tail) ≤ length new
+      fits = rw (e, a, b, rest-is) (rest_fits header_width body_limit buffer held came cut (lit≤ tt) q (rw (b, rest-is) at i))
 
-  abbrev rest : ℕ
-  rest = wanting header_width body_limit (take held buffer ++ take came cut)
+      module _ (last : List ℕ) (z : last ≡ splice new (held + came) (take w tail)) where
+        ends :
+            (held + came + w ≤ length last)
+            × Judgeable header_width body_limit (take (held + came + w) last) held
+            × (judged header_width body_limit (take (held + came + w) last) held ≡ read_on header_width body_limit (take held buffer) cut)
+            × (last ≡ kept_on header_width body_limit (take held buffer) cut buffer)
+        ends =
+            let j = rw (b, rest-is) at i in
+            let d = rest_comes header_width body_limit buffer held came cut (lit≤ tt) q j in
+            let f : last ≡ splice buffer held (take (came + w) cut) = z ∙ rw (e, a, b, rest-is) (rest_bytes header_width body_limit buffer held came cut (lit≤ tt) q j) in
+            let n : held + came + w ≡ held + (came + w) = omega arith in
+            rw (f, n, rest-is) (omega (arith, d.room, d.size), d.enough, d.told, d.kept)
 
-  resting : (new : List ℕ) (w : ℕ) → new ≡ first → w ≡ wanting header_width body_limit (take (held + came - 0) new) → w ≡ rest
-  resting new w e v =
-      let f = first_front header_width body_limit buffer held came cut (lit≤ tt) q in
-      rw (less_none (held + came), e, f) at v
-
-  -- ---- it comes
-
-  ends : rest ≤ length cut - came → Ends header_width body_limit buffer held cut (came + rest)
-  ends j = rest_comes header_width body_limit buffer held came cut (lit≤ tt) q j
-
-  full_is :
-      (new last : List ℕ) (w : ℕ) → new ≡ first → w ≡ rest → rest ≤ length cut - came →
-      last ≡ splice new (held + came) (take (came + w - came) (drop came cut)) → last ≡ splice buffer held (take (came + rest) cut)
-  full_is new last w e r j k =
-      let y : came + w - came ≡ w = omega arith in
-      rw (y, e, r) at k ∙ rest_bytes header_width body_limit buffer held came cut (lit≤ tt) q j
-
-  end_is : (w : ℕ) → w ≡ rest → held + came + w - 0 ≡ held + (came + rest)
-  end_is w r = omega (arith, r)
-
-pub keep-requires : goal.keep-requires
-keep-requires c =
+pub keep-requires-then-tail-rest : goal.keep-requires-then-tail-rest
+keep-requires-then-tail-rest c =
     let a = c.args in
-    let f = first-is a.buffer.now a.held a.cut.now c.requires.0 c.lay.new.buffer c.lay.ensures in
-    let r = resting a.buffer.now a.held a.cut.now c.requires.0 c.lay.new.buffer c.wanting-rest.result f c.wanting-rest.ensures in
-    rw f (less_fits header_width body_limit a.buffer.now a.held (header_width - a.held) a.cut.now (lit≤ tt) c.requires.0 (rw r at c.if-n-came.true))
+    let s = c.split_at.ensures in
+    (less a.buffer.now a.held a.cut.now c.requires.0 _ _ _ _ s.front s.back c.keep.ensures c.wanting-rest.ensures c.if-tail-rest.true).0
 
-pub returns-then-n-came : goal.returns-then-n-came
-returns-then-n-came c =
+pub returns-then-tail-rest : goal.returns-then-tail-rest
+returns-then-tail-rest c =
     let a = c.args in
-    let f = first-is a.buffer.now a.held a.cut.now c.requires.0 c.lay.new.buffer c.lay.ensures in
-    let r = resting a.buffer.now a.held a.cut.now c.requires.0 c.lay.new.buffer c.wanting-rest.result f c.wanting-rest.ensures in
-    let g = go_less header_width body_limit a.buffer.now a.held (header_width - a.held) a.cut.now (lit≤ tt) c.requires.0 (rw r at c.if-n-came.true) in
-    record { result_value = rw r at c.more.ensures ∙ g.0; buffer_after = rw f at c.keep.ensures ∙ g.1 }
+    let s = c.split_at.ensures in
+    let g = less a.buffer.now a.held a.cut.now c.requires.0 _ _ _ _ s.front s.back c.keep.ensures c.wanting-rest.ensures c.if-tail-rest.true in
+    record { result_value = c.more.ensures ∙ g.1; buffer_after = c.keep-then-tail-rest.ensures ∙ g.2 }
 
 pub keep-requires-2 : goal.keep-requires-2
 keep-requires-2 c =
     let a = c.args in
-    let came = header_width - a.held in
-    let y : came + c.wanting-rest.result - came ≡ c.wanting-rest.result = omega arith in
-    let f = first-is a.buffer.now a.held a.cut.now c.requires.0 c.lay.new.buffer c.lay.ensures in
-    let r = resting a.buffer.now a.held a.cut.now c.requires.0 c.lay.new.buffer c.wanting-rest.result f c.wanting-rest.ensures in
-    rw (y, f, r) (rest_fits header_width body_limit a.buffer.now a.held came a.cut.now (lit≤ tt) c.requires.0 (rw r at c.if-n-came.false))
+    let s = c.split_at.ensures in
+    fits a.buffer.now a.held a.cut.now c.requires.0 _ _ _ _ s.front s.back c.keep.ensures c.wanting-rest.ensures c.if-tail-rest.false
 
 pub slice_bounds-judge-end : goal.slice_bounds-judge-end
 slice_bounds-judge-end c =
     let a = c.args in
-    let f = first-is a.buffer.now a.held a.cut.now c.requires.0 c.lay.new.buffer c.lay.ensures in
-    let r = resting a.buffer.now a.held a.cut.now c.requires.0 c.lay.new.buffer c.wanting-rest.result f c.wanting-rest.ensures in
-    let j = rw r at c.if-n-came.false in
-    let l = full_is a.buffer.now a.held a.cut.now c.requires.0 c.lay.new.buffer c.keep-2.new.buffer c.wanting-rest.result f r j c.keep-2.ensures in
-    let e = ends a.buffer.now a.held a.cut.now c.requires.0 j in
-    rw l (omega (arith, r, e.room, e.size))
+    let s = c.split_at.ensures in
+    (ends a.buffer.now a.held a.cut.now c.requires.0 _ _ _ _ s.front s.back c.keep.ensures c.wanting-rest.ensures c.if-tail-rest.false _ c.keep-2.ensures).0
+
+pub slice_bounds-judge-end-2 : goal.slice_bounds-judge-end-2
+slice_bounds-judge-end-2 c = sym (length-take-le _ _ (slice_bounds-judge-end c))
 
 pub judge-requires : goal.judge-requires
 judge-requires c =
     let a = c.args in
-    let f = first-is a.buffer.now a.held a.cut.now c.requires.0 c.lay.new.buffer c.lay.ensures in
-    let r = resting a.buffer.now a.held a.cut.now c.requires.0 c.lay.new.buffer c.wanting-rest.result f c.wanting-rest.ensures in
-    let j = rw r at c.if-n-came.false in
-    let l = full_is a.buffer.now a.held a.cut.now c.requires.0 c.lay.new.buffer c.keep-2.new.buffer c.wanting-rest.result f r j c.keep-2.ensures in
-    let e = ends a.buffer.now a.held a.cut.now c.requires.0 j in
-    rw (end_is a.buffer.now a.held a.cut.now c.requires.0 c.wanting-rest.result r, l) e.enough
+    let s = c.split_at.ensures in
+    (ends a.buffer.now a.held a.cut.now c.requires.0 _ _ _ _ s.front s.back c.keep.ensures c.wanting-rest.ensures c.if-tail-rest.false _ c.keep-2.ensures).1
 
 pub returns : goal.returns
 returns c =
     let a = c.args in
-    let f = first-is a.buffer.now a.held a.cut.now c.requires.0 c.lay.new.buffer c.lay.ensures in
-    let r = resting a.buffer.now a.held a.cut.now c.requires.0 c.lay.new.buffer c.wanting-rest.result f c.wanting-rest.ensures in
-    let j = rw r at c.if-n-came.false in
-    let l = full_is a.buffer.now a.held a.cut.now c.requires.0 c.lay.new.buffer c.keep-2.new.buffer c.wanting-rest.result f r j c.keep-2.ensures in
-    let e = ends a.buffer.now a.held a.cut.now c.requires.0 j in
-    record {
-      result_value = rw (end_is a.buffer.now a.held a.cut.now c.requires.0 c.wanting-rest.result r, l) at c.judge.ensures ∙ e.told;
-      buffer_after = l ∙ e.kept;
-    }
+    let s = c.split_at.ensures in
+    let d = ends a.buffer.now a.held a.cut.now c.requires.0 _ _ _ _ s.front s.back c.keep.ensures c.wanting-rest.ensures c.if-tail-rest.false _ c.keep-2.ensures in
+    record { result_value = c.judge.ensures ∙ d.2; buffer_after = d.3 }

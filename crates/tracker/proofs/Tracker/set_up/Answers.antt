@@ -2,7 +2,6 @@ use mathlib.Core.Path.{◌∙◌, sym}
 use lib.Seq.{take_all}
 use Rattle.tracker.proofs.Begin.{set_up_listed, set_up_refused, listed_most}
 use Rattle.tracker.proofs.Lowered.{lowered_none}
-use borrow.Author.Rules.{rules}
 use Rattle.tracker.proofs.Tracker.set_up.Goals as goal
 
 pub returns-then-listed : goal.returns-then-listed

@@ -1,4 +1,3 @@
-use borrow.Author.Rules.{rules}
 use mathlib.Core.Path.{sym}
 use Rattle.tracker.proofs.Batch.{asked_all, asked-batch}
 use Rattle.tracker.proofs.request.asked.Goals as goal

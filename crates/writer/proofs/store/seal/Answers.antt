@@ -7,4 +7,4 @@ returns c =
     let a = c.args in
     let l : ℕ = a.size + length a.groups.now in
     sealed a.out.now a.kind a.size l a.groups.now refl c.requires.1 _ _ _ _ _
-    c.put4.ensures c.put4-2.ensures c.copy.ensures c.checksum-sum.ensures c.put4-3.ensures
+    c.put.ensures c.put-2.ensures c.copy.ensures c.checksum-sum.ensures c.put-3.ensures

@@ -1,17 +1,9 @@
 use Rattle.std.proofs.Common.{sym, arith}
-use Rattle.layout.specs.Layout.{snapshot, index, size}
-use Rattle.record.proofs.Choice.{named_as}
-use Rattle.entries.specs.Entry.{start}
-use Rattle.entries.proofs.Entries.{no_entries, no_start}
+use Rattle.entries.proofs.Entries.{no_entries, no_start, starts}
 use Rattle.entries.proofs.cursor.Cursor.start.Goals as goal
 
 pub returns-in-300111 : goal.returns-in-300111
-unfolding start size
-returns-in-300111 c = rw (named_as snapshot c.in-300111.is, c.be4.ensures)
-
-pub returns-in-309011 : goal.returns-in-309011
-unfolding start size
-returns-in-309011 c = rw (named_as index c.in-309011.is, c.be4-in-309011.ensures)
+returns-in-300111 c = rw c.at.ensures (sym (starts _ _ c.in-300111.is))
 
 pub returns-in_default : goal.returns-in_default
-returns-in_default c = sym (no_start _ (no_entries _ (λ e. omega arith) (λ e. omega arith)))
+returns-in_default c = sym (no_start _ (no_entries _ (λ e. grind (arith, c.in_default)) (λ e. grind (arith, c.in_default))))

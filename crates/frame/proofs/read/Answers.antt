@@ -1,4 +1,0 @@
-use Rattle.frame.proofs.read.Goals as goal
-
-pub returns : goal.returns
-returns c = c.read_at.ensures

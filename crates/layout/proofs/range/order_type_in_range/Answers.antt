@@ -1,7 +1,0 @@
-use mathlib.Core.Bool.{or-false}
-use Rattle.layout.specs.Kind.{ranged}
-use Rattle.layout.proofs.range.order_type_in_range.Goals as goal
-
-pub returns : goal.returns
-unfolding ranged
-returns c = rw or-false

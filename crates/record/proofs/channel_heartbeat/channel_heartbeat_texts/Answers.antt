@@ -1,6 +1,0 @@
-use Rattle.layout.specs.Layout.{texts}
-use Rattle.record.proofs.channel_heartbeat.channel_heartbeat_texts.Goals as goal
-
-pub returns : goal.returns
-unfolding texts
-returns c = c.no_texts.ensures

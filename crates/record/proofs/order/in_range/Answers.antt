@@ -1,8 +1,0 @@
-use mathlib.Core.Bool.{and-true}
-use Rattle.layout.specs.Layout.{ranges}
-use Rattle.layout.proofs.Free.{free-channel, free-text}
-use Rattle.record.proofs.order.in_range.Goals as goal
-
-pub returns : goal.returns
-unfolding ranges
-returns c = simp (free-channel, free-text, and-true) (cc)

@@ -1,0 +1,6 @@
+use Rattle.layout.specs.Layout.{texts}
+use Rattle.record.proofs.statistics.StatisticsListed.gathered.Goals as goal
+
+pub returns : goal.returns
+unfolding texts
+returns c = c.no_texts.ensures

@@ -1,6 +1,0 @@
-use mir.Facts.{to_z-of_z}
-use borrow.Author.Rules.{rules}
-use Rattle.tracker.proofs.Tracker.tick.Goals as goal
-
-pub returns : goal.returns
-returns c = rw (to_z-of_z c.ranges.number) at c.tick_in-verdict.ensures
