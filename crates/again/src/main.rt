@@ -41,7 +41,7 @@ impl Program for Again {
     fn step(&mut self, bytes: &[u8]) -> io::Result<Step> {
         match frame::read(bytes) {
             Ok(f) => {
-                self.rewrite(f.kind, &bytes[Frame::HEADER..Frame::HEADER + f.len])?;
+                self.rewrite(f.kind, frame::body(bytes))?;
                 Ok(Step::Took(f.total))
             }
             Err(_) => Ok(Step::Waits),

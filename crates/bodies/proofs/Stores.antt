@@ -17,7 +17,7 @@ use mir.Facts.{to_z-of_z}
 use Rattle.wire.specs.Bytes.{digits, splice, put_at}
 use Rattle.wire.proofs.PutAt.{put_fits, length-splice, splice-more}
 use Rattle.layout.specs.Kind.{Kind, text, Text, Form, unsigned, signed, written, form, width, characters}
-use Rattle.layout.specs.Layout.{Message, fields, size, texts_behind}
+use Rattle.layout.specs.Layout.{Message, snapshot, index, volume_index, fields, size, texts_behind}
 use Rattle.bodies.specs.Body.{numbers_behind, field_bytes, encode, text_width, text_size}
 use Rattle.bodies.specs.Parts.{put_fields}
 use Rattle.bodies.proofs.Round.{length_field, length-encode, length-behind}
@@ -184,3 +184,12 @@ module _ (m : Message) (zs : List ℤ) (ts out : List ℕ) where
   -- it keeps its length
   pub length_stored : length (put_fields m zs ts out) ≡ length out
   length_stored = stored_by (eqb (length ts) (text_size (fields m))) (eqb (length out) (size (fields m))) refl refl
+
+-- an index is stored as a snapshot is, and a stock number as a count is
+pub index_stored : (zs : List ℤ) (ts out : List ℕ) → put_fields snapshot zs ts out ≡ put_fields index zs ts out
+unfolding put_fields
+index_stored zs ts out = refl
+
+pub volume_index_stored : (zs : List ℤ) (ts out : List ℕ) → put_fields snapshot zs ts out ≡ put_fields volume_index zs ts out
+unfolding put_fields size text_size encode
+volume_index_stored zs ts out = refl

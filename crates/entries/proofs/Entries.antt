@@ -8,17 +8,17 @@ use mathlib.Core.List.{List, [], ◌∷◌}
 use native.Mathlib.Omega.{arith}
 use borrow.Author.Tests.{eq-eqb, ne_eqb, lt-ltb, le-ltb}
 use lib.Dec.{leb, lit<}
-use lib.ListN.{length, take, drop}
+use lib.ListN.{length}
 use mir.Syntax.{w64}
 use mir.Val.{to_z}
 use Rattle.wire.specs.Answer.{accepted, refused, guard, and_then}
 use Rattle.wire.specs.Bytes.{be_at, part}
-use Rattle.wire.proofs.Be.{be_at-part, be_at-here}
-use Rattle.layout.specs.Kind.{Kind, Form, unsigned, signed, written, form, bytes, width}
-use Rattle.layout.specs.Layout.{Message, heartbeat, channel_heartbeat, resend, statistics, security_status, snapshot, index, volume_index, order, trade, fields, Listed, listed, unlisted, named, Group, streams, switches, nothing, groups, entries, behind, Entries, entry_group, snapshot_entries, index_entries, size, ranges, values, value_at}
+use Rattle.wire.proofs.Be.{be_at-here}
+use Rattle.layout.specs.Layout.{Message, heartbeat, channel_heartbeat, resend, statistics, security_status, snapshot, index, volume_index, order, trade, fields, Listed, listed, unlisted, named, Group, streams, switches, nothing, groups, entries, behind, Entries, entry_group, snapshot_entries, index_entries, size, ranges, values}
 use Rattle.layout.specs.Group.{shown, next_offset, group_offset, offset_from, fit, group_ranges, judge_groups, group, groups_start, count, whole, in_range, judge_body}
 use Rattle.layout.proofs.Walk.{Ahead, ahead, and_both, fit-fewer, fit-there, Good, good}
 use Rattle.record.proofs.Choice.{named_as, named_back}
+use Rattle.record.proofs.Had.{values-part}
 use Rattle.record.specs.Asked.{found, no_such_entry, judge}
 use Rattle.entries.specs.Entry.{At, entry_at, at_none, start, step_in, step, entry_listed, entry_of, quantity_at, quantity_listed, quantity_of}
 
@@ -75,18 +75,6 @@ module _ (s : List ℕ) where
   no_quantity i j unknown = refl
 
 -- ---- an entry in the part that holds its fields
-
-value_at-part : (f : Form) (s : List ℕ) (p w i : ℕ) → i + bytes f ≤ w → value_at f (take w (drop p s)) i ≡ value_at f s (p + i)
-value_at-part (unsigned n) s p w i h = rw (be_at-part s p w i n h)
-value_at-part signed s p w i h = rw (be_at-part s p w i 8 h)
-value_at-part (written t) s p w i h = refl
-
-pub values-part : (l : List Kind) (s : List ℕ) (p w i : ℕ) → i + size l ≤ w → values l (take w (drop p s)) i ≡ values l s (p + i)
-unfolding values size
-values-part [] s p w i h = refl
-values-part (k ∷ ks) s p w i h =
-    let e : p + (i + width k) ≡ p + i + width k = omega arith in
-    rw (value_at-part (form k) s p w i (omega arith), values-part ks s p w (i + width k) (omega arith), e)
 
 pub entry_at-here : (e : Entries) (s : List ℕ) (p q : ℕ) → p + size (entry_group e).fields ≡ q → 2 ≤ size (entry_group e).fields → entry_at e (part p q s) 0 ≡ entry_at e s p
 unfolding entry_at

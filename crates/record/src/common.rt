@@ -33,18 +33,29 @@ impl Common {
                         & amount_in_range(u64::at(body, common::AMOUNT)))))
     }
 
-    // The numbers of its fields. Bytes that are not there count as none.
+    // The numbers of its fields, from bytes of whatever length. Those that are not there count as none.
+    fn read(b: &[u8]) -> Common
+        ensures { common_values result [] ≡ values common_part b.now 0 }
+    {
+        Common {
+            time: i64::at(b, common::TIME),
+            channel: u16::at(b, common::CHANNEL),
+            previous_close: i64::at(b, common::PREVIOUS_CLOSE),
+            trade_count: i64::at(b, common::TRADE_COUNT),
+            volume: i64::at(b, common::VOLUME),
+            amount: i64::at(b, common::AMOUNT),
+        }
+    }
+
+    // The numbers of its fields. Bytes that are not there count as none. A body that has them all is read in a part of constant length,
+    // so that no field's read tests it: called as it stands, the reading took 1.6 times the instructions of a volume index.
     pub(crate) fn fields(body: &[u8]) -> Common
         ensures { common_values result [] ≡ values common_part body.now 0 }
     {
-        Common {
-            time: i64::at(body, common::TIME),
-            channel: u16::at(body, common::CHANNEL),
-            previous_close: i64::at(body, common::PREVIOUS_CLOSE),
-            trade_count: i64::at(body, common::TRADE_COUNT),
-            volume: i64::at(body, common::VOLUME),
-            amount: i64::at(body, common::AMOUNT),
+        if body.len() < common::SIZE {
+            return Common::read(body);
         }
+        Common::read(&body[0..common::SIZE])
     }
 
     // Its texts. Bytes that are not there count as none.

@@ -45,7 +45,7 @@ impl Program for Showing {
     fn step(&mut self, bytes: &[u8]) -> io::Result<Step> {
         match frame::read(bytes) {
             Ok(f) => {
-                self.frame(f.kind, &bytes[Frame::HEADER..Frame::HEADER + f.len])?;
+                self.frame(f.kind, frame::body(bytes))?;
                 self.offset = self.offset.wrapping_add(f.total as u64);
                 self.frames = self.frames.wrapping_add(1);
                 Ok(Step::Took(f.total))

@@ -40,17 +40,50 @@ impl Display for Time {
     }
 }
 
-// One character; one that is not printed, a quote and a backslash by its code.
+// How many characters are laid before they are written, each of which takes four bytes at most.
+const LAID: usize = 16;
+
+// The hexadecimal digits.
+const HEX: [u8; 16] = *b"0123456789ABCDEF";
+
+// A character's code.
+fn code(b: u8) -> [u8; 4] {
+    [
+        b'\\',
+        b'x',
+        HEX[usize::from(b / 16)],
+        HEX[usize::from(b % 16)],
+    ]
+}
+
+// A character behind those that are laid; one that is not printed, a quote and a backslash by its code. Characters are laid and written
+// together: one by one, codes by `{:02X}`, texts of codes took twice as long.
+fn lay(out: &mut [u8], at: usize, b: u8) -> usize {
+    match b {
+        b'"' | b'\\' => text::word(out, at, &code(b)),
+        b' '..=b'~' => text::word(out, at, &[b]),
+        _ => text::word(out, at, &code(b)),
+    }
+}
+
+// Characters, laid and then written.
+fn write_all<W: Write>(f: &mut Formatter<W>, characters: &[u8]) -> fmt::Result {
+    let mut out = [0u8; 4 * LAID];
+    let mut at: usize = 0;
+    for b in characters {
+        at = lay(&mut out, at, *b);
+    }
+    let laid = out.get(..at).unwrap_or_default();
+    f.write_str(str::from_utf8(laid).unwrap_or_default())
+}
+
+// One character.
 #[derive(Clone, Copy)]
 pub struct Character(pub u8);
 
 impl Display for Character {
     fn fmt<W: Write>(&self, f: &mut Formatter<W>) -> fmt::Result {
-        match self.0 {
-            b'"' | b'\\' => write!(f, "\\x{:02X}", self.0),
-            b' '..=b'~' => f.write_char(self.0 as char),
-            _ => write!(f, "\\x{:02X}", self.0),
-        }
+        write_all(f, &[self.0])
     }
 }
 
@@ -61,8 +94,8 @@ pub struct Trimmed<'a>(pub &'a [u8]);
 impl Display for Trimmed<'_> {
     fn fmt<W: Write>(&self, f: &mut Formatter<W>) -> fmt::Result {
         let n = self.0.iter().rposition(|b| *b != b' ').map_or(0, |i| i + 1);
-        for b in &self.0[..n] {
-            Character(*b).fmt(f)?;
+        for part in self.0[..n].chunks(LAID) {
+            write_all(f, part)?;
         }
         Ok(())
     }

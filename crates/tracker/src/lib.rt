@@ -14,7 +14,7 @@ ghost use Rattle.tracker.specs.Request.{request, request_leaves, means_requested
 ghost use Rattle.tracker.specs.declared.Refusal.TheVariants.{Malformed};
 ghost use Rattle.tracker.specs.declared.RequestRefusal.TheVariants.{Malformed as Unasked};
 
-pub use joins::join_in;
+pub use joins::{Refusal as JoinRefusal, join_in};
 pub use lent::{heartbeat_in, tick_in};
 pub use request::request_in;
 use rows::padded;
@@ -99,10 +99,13 @@ pub struct Reply {
     pub next: Tracker,
 }
 
+// What a join answers.
+pub type JoinVerdict = Result<(), JoinRefusal>;
+
 // A join's answer, and the next tracker, which a refusal gives too: as it stood.
 #[derive(Clone, Copy)]
 pub struct Joined {
-    pub verdict: Result<(), joins::Refusal>,
+    pub verdict: JoinVerdict,
     pub next: Tracker,
 }
 

@@ -6,6 +6,7 @@ ghost use Rattle.std.proofs.lemmas.Int.{of_z-to_z};
 ghost use Rattle.wire.specs.Bytes.{be, be_at, digits, put_at};
 
 use crate::put::copy;
+use crate::sign::{signed, unsigned};
 
 // A number of a fixed count of bytes.
 pub trait Number: Copy {
@@ -44,7 +45,8 @@ fn bytes<const N: usize>(s: &[u8], at: usize) -> [u8; N]
     }
 }
 
-// An impl for each type: the library's from_be_bytes and to_be_bytes are in no trait, and a macro may not write an impl.
+// An impl for each type: the library's from_be_bytes and to_be_bytes are in no trait, and a macro may not write an impl. A signed
+// number is read and put as its 64 bits, by way of `signed` and `unsigned`.
 impl Number for u8 {
     ghost width = { 1 };
 
@@ -127,10 +129,10 @@ impl Number for i64 {
     ghost kept = { of_z-to_z w64 };
 
     fn at(s: &[u8], at: usize) -> i64 {
-        i64::from_be_bytes(bytes(s, at))
+        signed(u64::at(s, at))
     }
 
     fn put(self, out: &mut [u8], at: usize) {
-        copy(out, at, &i64::to_be_bytes(self));
+        unsigned(self).put(out, at);
     }
 }

@@ -1,6 +1,7 @@
 -- What the call of one type needs and gives, by the verdict that it found; once for every type.
 -- Assumes nothing.
-use Rattle.std.specs.Prelude.{Ok, Err}
+use Rattle.std.specs.Prelude.{Ok, Err, None}
+use Rattle.std.proofs.lemmas.Option.{none-some}
 use Prim.Native.Nat.{ℕ, ◌+◌, ◌≤◌}
 use mathlib.Core.Path.{◌≡◌, refl, ap, sym, ◌∙◌}
 use mathlib.Core.List.{List, [], ◌++◌}
@@ -13,9 +14,11 @@ use Rattle.wire.specs.Bytes.{part, splice}
 use Rattle.frame.specs.Framing.{header_width, sum_width, body_limit}
 use Rattle.layout.specs.Paper.{body_refusal}
 use Rattle.layout.specs.declared.group.Refusal as layout_refusal
-use Rattle.layout.specs.Layout.{Message, fields, size, type_number}
+use Rattle.layout.specs.Layout.{Message, Behind, nothing, groups, entries, behind, entry_group, fields, size, type_number}
+use Rattle.layout.specs.Group.{group_behind, group_offset}
 use Rattle.record.specs.Record.{known}
-use Rattle.bodies.specs.Body.{body, encode}
+use Rattle.record.specs.Paper.{counted, counted_behind}
+use Rattle.bodies.specs.Body.{body, count_in, encode}
 use Rattle.bodies.specs.Parts.{verdict_of, put_fields}
 use Rattle.bodies.proofs.Bodies.{exactly}
 use Rattle.bodies.proofs.Round.{length-encode}
@@ -67,6 +70,13 @@ pub kept :
 unfolding write write_leaves
 kept t = (t.says, rw (sym t.says))
 
+-- what is counted behind no count takes no bytes
+uncounted : (b : Behind) (zs : List ℤ) (gs : List ℕ) → counted_behind b ≡ None → group_offset (group_behind b) gs 0 (count_in b zs) ≡ 0
+unfolding group_offset
+uncounted nothing zs gs e = refl
+uncounted (groups g) zs gs e = absurd (none-some g (sym e))
+uncounted (entries x) zs gs e = absurd (none-some (entry_group x) (sym e))
+
 -- a frame
 module _ {m : Message} {zs : List ℤ} {ts gs out : List ℕ} {n : ℕ} (t : Told m zs ts gs out (Ok n)) where
   abbrev width : ℕ
@@ -78,6 +88,10 @@ module _ {m : Message} {zs : List ℤ} {ts gs out : List ℕ} {n : ℕ} (t : Tol
   -- the part that the fields are lent
   pub ends : header_width + width ≤ length out
   ends = omega (arith, says.there)
+
+  -- a type without groups was lent none
+  pub ungrouped : counted m ≡ None → length gs ≡ 0
+  ungrouped e = sym (exactly m zs ts gs says.exacts).ends ∙ uncounted (behind m) zs gs e
 
   -- a frame without fields
   pub room : (width + length gs ≤ body_limit) × (header_width + sum_width + (width + length gs) ≤ length out)

@@ -2,7 +2,7 @@ use Rattle.std.proofs.Common.{◌≡◌, ℕ, ◌+◌, ◌-◌, ap, sym, ◌∙�
 use Rattle.std.proofs.lemmas.Result.{err_from_is_err_and}
 use Rattle.layout.specs.Layout.{fields, size}
 use Rattle.writer.proofs.Judging.{fields_fit, by_reading}
-use Rattle.writer.proofs.Typed.{told_refused, told_fitted, kept, ends, sealing, left}
+use Rattle.writer.proofs.Typed.{told_refused, told_fitted, kept, ends, ungrouped, sealing, left}
 use Rattle.writer.proofs.write_as.Goals as goal
 
 pub returns-in_err-verdict : goal.returns-in_err-verdict
@@ -38,6 +38,11 @@ slice_bounds-put-end g c =
     let t = told_fitted g.T.Listed.layout c.args.out.now c.in_ok-verdict.ensures (rw s at c.in_ok-total.ensures) in
     omega (arith, s2, ends t)
 
+pub own-requires : goal.own-requires
+own-requires g c =
+    let s = c.SIZE.ensures ∙ sym g.met.T.Listed.size_is in
+    ungrouped (told_fitted g.T.Listed.layout c.args.out.now c.in_ok-verdict.ensures (rw s at c.in_ok-total.ensures))
+
 pub seal-requires : goal.seal-requires
 seal-requires g c =
     let m = g.T.Listed.layout in
@@ -46,7 +51,7 @@ seal-requires g c =
     let s2 = c.SIZE-2.ensures ∙ sym g.met.T.Listed.size_is in
     let s3 = c.SIZE-3.ensures ∙ sym g.met.T.Listed.size_is in
     let t = told_fitted m c.args.out.now c.in_ok-verdict.ensures (rw s at c.in_ok-total.ensures) in
-    rw (s2, s3, e) (sealing t (rw (s2, e) at c.put.ensures))
+    rw (s2, s3, e, c.own.ensures) (sealing t (rw (s2, e) at c.put.ensures))
 
 pub returns : goal.returns
 returns g c =
@@ -57,6 +62,6 @@ returns g c =
     let s3 = c.SIZE-3.ensures ∙ sym g.met.T.Listed.size_is in
     let k = c.KIND.ensures ∙ sym g.met.T.Listed.kind_is in
     let t = told_fitted m c.args.out.now c.in_ok-verdict.ensures (rw s at c.in_ok-total.ensures) in
-    let l = left t (rw (s2, e) at c.put.ensures) s3 (ap (λ (n : ℕ). 8 + n - 8) s2 ∙ e) k c.seal.ensures in
+    let l = left t (rw (s2, e) at c.put.ensures) s3 (ap (λ (n : ℕ). 8 + n - 8) s2 ∙ e) k (rw c.own.ensures at c.seal.ensures) in
     let a = by_reading _ _ _ (g.met.T.Body.record_is c.args.r) l in
     record { result_value = a.0; out_after = a.1 }

@@ -3,12 +3,6 @@ use Rattle.frame.specs.Framing.{header_width, body_limit}
 use Rattle.frame.proofs.Framing.{told}
 use Rattle.show.proofs.ShowingProgram.step.Goals as goal
 
-pub overflow_add-f : goal.overflow_add-f
-overflow_add-f c = let a = told header_width body_limit _ _ _ c.read.ensures c.in-Ok.is in omega arith
-
-pub slice_bounds-frame-end : goal.slice_bounds-frame-end
-slice_bounds-frame-end c = let a = told header_width body_limit _ _ _ c.read.ensures c.in-Ok.is in omega arith
-
 pub returns-in_ok-frame-in-Ok : goal.returns-in_ok-frame-in-Ok
 returns-in_ok-frame-in-Ok c =
     let a = told header_width body_limit _ _ _ c.read.ensures c.in-Ok.is in

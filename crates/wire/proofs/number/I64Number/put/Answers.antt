@@ -1,7 +1,0 @@
-use Rattle.std.proofs.Common.{◌∙◌}
-use Rattle.wire.proofs.Signs.{kept}
-use Rattle.wire.proofs.Digits.{high_first}
-use Rattle.wire.proofs.number.I64Number.put.Goals as goal
-
-pub returns : goal.returns
-returns c = c.copy.ensures ∙ rw (c.to_be_bytes.ensures, high_first, kept _ c.ranges.self)
